@@ -14,6 +14,8 @@ use Rattle.command_run.specs.declared.command.Command.{Command}
 use Rattle.command_run.specs.declared.command.Command.TheVariants.{Replay, Check, Pair, Clients, Drill}
 use Rattle.command_run.proofs.CheckLemmas.{checked-status, checked-read, checked-write}
 use Rattle.command_run.proofs.DrillLemmas.{drilled-status, drilled-read, drilled-write}
+use Rattle.local_clients.proofs.Happening.{line_never_differs as client_line_never_differs}
+use Rattle.pair_net.proofs.Playing.{line_never_differs as pair_line_never_differs}
 use Rattle.command_run.proofs.LineLemmas.{led-status, led-read, led-write}
 use Rattle.command_run.proofs.ReplayLemmas.{replayed-status, replayed-read, replayed-write}
 use Rattle.tool_status.specs.Streams.{StreamsTold}
@@ -25,8 +27,8 @@ module _ (b a : StreamsTold) (status : Status) where
   status_by None d = d
   status_by (Some Replay) d = replayed-status b a status d
   status_by (Some Check) d = checked-status b a status d
-  status_by (Some Pair) d = led-status pair_line_means pair_start PairIsLawful b a status d
-  status_by (Some (Clients rules)) d = led-status client_line_means (nobody rules) (ClientsAreLawful rules) b a status d
+  status_by (Some Pair) d = led-status pair_line_means pair_start PairIsLawful b a status d pair_line_never_differs
+  status_by (Some (Clients rules)) d = led-status client_line_means (nobody rules) (ClientsAreLawful rules) b a status d client_line_never_differs
   status_by (Some (Drill seed count)) d = drilled-status seed count b.out a.out status d
 
   read_by : (command : Option Command) → IsDone command b a status → status ≡ ReadFault → RoseSource b a

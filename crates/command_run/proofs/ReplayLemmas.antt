@@ -1,7 +1,7 @@
 -- What has come of a replay, from what it read and wrote.
 use Rattle.std.proofs.Common.{◌≡◌, ℕ, List, Option, Some, inl, inr, sym, ap, ◌∙◌, subst}
 use Rattle.io_edge.specs.Causes.{Rose}
-use Rattle.line_run.specs.Judgement.{Verdict, ended, refused, too_long}
+use Rattle.line_run.specs.Judgement.{Verdict}
 use Rattle.trace_meaning.specs.Output.{output_of}
 use Rattle.trace_meaning.specs.Replays.{verdict_of, Replays, AreUndecided}
 use Rattle.trace_meaning.specs.FaultCounts.{HasReadCount, HasWriteCount}

@@ -5,24 +5,20 @@ use Rattle.line_run.specs.Judgement.{verdict_of}
 use Rattle.line_run.specs.Meaning.{Meaning}
 use Rattle.line_run.specs.Runs.{Runs, outcome_of, HasReadCount, HasWriteCount}
 use Rattle.line_run.specs.declared.outcome.LineOutcome.{LineOutcome}
-use Rattle.line_run.specs.declared.outcome.LineOutcome.TheVariants as outcome
 use Rattle.local_clients.specs.Law.{AreLawful}
 use Rattle.local_clients.specs.Replay.{line_means as client_line_means, nobody, clients_after}
 use Rattle.local_clients.specs.declared.rules.ClientRules.{ClientRules}
 use Rattle.pair_net.specs.Replay.{line_means as pair_line_means, pair_start, IsLawfulSoFar, progress_after}
 use Rattle.command_run.specs.Command.{IsAnswered, RoseSource, RoseSink}
 use Rattle.tool_status.specs.Streams.{StreamsTold}
+use Rattle.tool_status.specs.Told.{status_told}
+use Rattle.trace_meaning.specs.Told.{outcome_run}
 use Rattle.tool_status.specs.declared.status.Status.{Status}
-use Rattle.tool_status.specs.declared.status.Status.TheVariants.{Done, Refused, ReadFault, WriteFault, OutOfMemory, TooLong}
+use Rattle.tool_status.specs.declared.status.Status.TheVariants.{OutOfMemory}
 
 -- how the outcome of a run over lines is told
 abbrev pub status_run : LineOutcome → Status
-status_run outcome.Done = Done
-status_run (outcome.Refused line kind) = Refused line kind
-status_run outcome.ReadFault = ReadFault
-status_run outcome.WriteFault = WriteFault
-status_run outcome.OutOfMemory = OutOfMemory
-status_run (outcome.TooLong line) = TooLong line
+status_run outcome = status_told (outcome_run outcome)
 
 -- the status of the line that decides
 abbrev pub line_status : {S : Type 0} → (S → List ℕ → Meaning S) → S → List ℕ → Status

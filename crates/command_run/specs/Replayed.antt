@@ -3,7 +3,7 @@ use Rattle.std.specs.Prelude.{◌≡◌, ℕ, ◌⊎◌, List, Option, Some}
 use Rattle.net_base.specs.declared.refusal.RefusalKind.{RefusalKind}
 use Rattle.trace_compare.specs.Again.{TakesItsOwnOutput}
 use Rattle.trace_meaning.specs.Inputs.{IsDecided, StopsReading, StopsWriting, IsOutputOfSome, IsOutputSoFar, IsProperFrontOfSome, IsFrontOfSome}
-use Rattle.line_run.specs.Judgement.{Verdict, ended, refused, too_long}
+use Rattle.line_run.specs.Judgement.{Verdict, ended, differed, refused, too_long}
 use Rattle.trace_meaning.specs.Output.{output_of}
 use Rattle.trace_meaning.specs.Replays.{Replays, verdict_of}
 use Rattle.line_run.specs.Runs.{TakesPrefix}
@@ -19,6 +19,7 @@ use Rattle.tool_status.specs.declared.status.Status.TheVariants.{Done, Differ, U
 -- the status of the line that decides
 abbrev pub status_of : Verdict → Status
 status_of ended = Done
+status_of (differed line) = Differ line
 status_of (refused line kind) = Refused line kind
 status_of (too_long line) = TooLong line
 

@@ -18,6 +18,7 @@ use pair_net::law::both_ends_agree;
 use pair_net::pair_run;
 use std::alloc::Global;
 use tool_status::{Status, tell};
+use trace_meaning::Outcome;
 use trace_replay::{check, replay};
 use world_drive::drill;
 
@@ -99,12 +100,5 @@ fn obey<S: Source, K: Sink>(alloc: Global, command: Command, src: &mut S, out: &
 fn ran(outcome: LineOutcome) -> Status
     ensures { result ≡ status_run outcome }
 {
-    match outcome {
-        LineOutcome::Done => Status::Done,
-        LineOutcome::Refused { line, kind } => Status::Refused { line, kind },
-        LineOutcome::ReadFault => Status::ReadFault,
-        LineOutcome::WriteFault => Status::WriteFault,
-        LineOutcome::OutOfMemory => Status::OutOfMemory,
-        LineOutcome::TooLong { line } => Status::TooLong { line },
-    }
+    Status::of_outcome(Outcome::from(outcome))
 }

@@ -7,8 +7,7 @@ use Rattle.io_edge.specs.Lines.{is_line_feed, HasNoLineFeed, whole_lines, unfini
 use Rattle.io_edge.proofs.LineLemmas.{whole_lines-ended, unfinished_line-ended, whole_lines-line, whole_lines-none, unfinished_line-none, first_cut, before_first-none, HasNoLineFeed-before_first, HasNoLineFeed-not_found, ended_lines-append}
 use Rattle.net_base.specs.declared.refusal.RefusalKind.TheVariants.{NoEnd}
 use Rattle.line_run.specs.Meaning.{Meaning, goes_on}
-use Rattle.line_run.specs.Judgement.{refused, too_long, most_lines, Judgement, silently, behind, is_too_long, judged_by, verdict_of_rest, judged_from, judged, output_of}
-use Rattle.line_run.specs.UnderWay.{Lead}
+use Rattle.line_run.specs.Judgement.{refused, too_long, most_lines, Judgement, silently, behind, is_too_long, judged_by, verdict_of_rest, judged_from, judged, output_of, Lead}
 
 -- the bytes of lines that were read, and those behind them
 abbrev pub seen_of : List (List ℕ) → List ℕ → List ℕ

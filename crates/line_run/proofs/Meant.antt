@@ -4,7 +4,7 @@ use Rattle.std.proofs.lemmas.List.{append-nil}
 use Rattle.trace_text.specs.Lines.{IsReading}
 use Rattle.trace_text.specs.declared.line.LineRefusal.{LineRefusal}
 use Rattle.trace_text.specs.declared.line.LineRefusal.TheVariants.{BadWord, BadNumber, BadTargets, OutOfOrder, OutOfMemory}
-use Rattle.line_run.specs.Meaning.{Meaning, Says, IsInterpreted}
+use Rattle.line_run.specs.Meaning.{Meaning, differs, Says, IsInterpreted}
 use Rattle.line_run.specs.Refusals.{if_read, stop_of}
 use Rattle.line_run.specs.declared.stop.Stop.{Stop}
 
@@ -27,3 +27,11 @@ module _ {S A : Type 0} (read : Result A LineRefusal) (meaning : A → Meaning S
       IsInterpreted (meaning value) next before after result → IsInterpreted (if_read read meaning) next before after result
   read_interpreted value before after result is done =
       subst (λ (m : Meaning S). IsInterpreted m next before after result) (sym (ap (λ (r : Result A LineRefusal). if_read r meaning) is)) done
+
+  -- none differs by being read
+  pub read_never_differs : (lines : List (List ℕ)) → ((value : A) → meaning value ≡ differs lines → ⊥) → if_read read meaning ≡ differs lines → ⊥
+  read_never_differs lines never e = by read e
+    where
+      by : (r : Result A LineRefusal) → if_read r meaning ≡ differs lines → ⊥
+      by (Ok value) e = never value e
+      by (Err refusal) e = absurd cc

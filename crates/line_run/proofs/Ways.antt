@@ -12,15 +12,14 @@ use Rattle.io_edge.specs.declared.line_fault.LineFault.{LineFault}
 use Rattle.io_edge.specs.declared.line_fault.LineFault.TheVariants.{Failed, TooLong as LineTooLong, OutOfMemory as NoMemory}
 use Rattle.io_edge.proofs.LineLemmas.{whole_lines-ended, whole_lines-none, IsPastLimit-append, ended_lines-append, ended_lines_push}
 use Rattle.io_edge.proofs.ToldLemmas.{Gives-nothing, Gives-append, Takes-nothing, Takes-append, TakesProperPrefix-after, TakesProperPrefix-more}
-use Rattle.net_base.specs.declared.refusal.RefusalKind.{RefusalKind}
 use Rattle.net_base.specs.declared.refusal.RefusalKind.TheVariants.{NoEnd}
-use Rattle.line_run.specs.Meaning.{Meaning, goes_on, ends}
-use Rattle.line_run.specs.Judgement.{Verdict, ended, refused, too_long, most_lines, Judgement, silently, behind, judged_by, judged, output_of}
-use Rattle.line_run.specs.Runs.{outcome_of, AreDecisive, Runs, HasReadCount, HasWriteCount}
+use Rattle.line_run.specs.Meaning.{Meaning, goes_on}
+use Rattle.line_run.specs.Judgement.{Verdict, ended, differed, refused, too_long, most_lines, Judgement, silently, behind, judged_by, judged, output_of, Lead}
+use Rattle.line_run.specs.Runs.{outcome_of, AreDecisive, IsOutcome, Runs, HasReadCount, HasWriteCount}
 use Rattle.line_run.specs.LineRead.{line_told, IsLineRead}
-use Rattle.line_run.specs.UnderWay.{Lead, HasSaid, IsUnderWay, IsEnding, IsLineNext, IsTurn, IsInterpretedAt}
+use Rattle.line_run.specs.UnderWay.{HasSaid, IsUnderWay, IsEnding, IsLineNext, IsTurn, IsInterpretedAt}
 use Rattle.line_run.specs.declared.outcome.LineOutcome.{LineOutcome}
-use Rattle.line_run.specs.declared.outcome.LineOutcome.TheVariants.{Done, Refused, ReadFault, WriteFault, OutOfMemory, TooLong}
+use Rattle.line_run.specs.declared.outcome.LineOutcome.TheVariants.{Done, Differ, Refused, ReadFault, WriteFault, OutOfMemory, TooLong}
 use Rattle.line_run.proofs.Judging.{seen_of, Begins, output_behind, Lead-none, Lead-more, Decides, line_decides, past_decides, most_decides, rest_refused}
 
 -- Lines were read, with some bytes behind them, and what those lines give was written.
@@ -58,43 +57,28 @@ takes_silent means start seen lines verdict before now is takes =
 
 -- ---- what it has come to
 
-refused_at : {S : Type 0} (means : S → List ℕ → Meaning S) (start state : S) (texts lines : List (List ℕ)) (tail : List ℕ) (number : ℕ) (kind : RefusalKind) (l0 l1 t0 t1 : Option (List ℕ)) →
-    HasRead means start state texts lines tail l0 l1 t0 t1 → Decides means start texts lines tail (silently (refused number kind)) → Runs means start l0 l1 t0 t1 (Refused number kind)
-refused_at means start state texts lines tail number kind l0 l1 t0 t1 read decides = record {
-  seen = seen_of texts tail;
-  gives = read.gives;
-  is_outcome = (
-    decisive means start texts lines tail l1 (silently (refused number kind)) decides,
-    takes_silent means start (seen_of texts tail) lines (refused number kind) t0 t1 (judged_now means start texts lines tail _ decides) read.takes,
-  );
-}
+-- what some bytes decide, with their output taken
+decided : {S : Type 0} (means : S → List ℕ → Meaning S) (start : S) (verdict : Verdict) (seen : List ℕ) (left before now : Option (List ℕ)) →
+    AreDecisive means start seen left (outcome_of verdict) → Takes before now (output_of means start seen) → IsOutcome means start (outcome_of verdict) seen left before now
+decided means start ended seen left before now decisive takes = (decisive, takes)
+decided means start (differed line) seen left before now decisive takes = (decisive, takes)
+decided means start (refused line kind) seen left before now decisive takes = (decisive, takes)
+decided means start (too_long line) seen left before now decisive takes = (decisive, takes)
 
-too_long_at : {S : Type 0} (means : S → List ℕ → Meaning S) (start state : S) (texts lines : List (List ℕ)) (tail : List ℕ) (number : ℕ) (l0 l1 t0 t1 : Option (List ℕ)) →
-    HasRead means start state texts lines tail l0 l1 t0 t1 → Decides means start texts lines tail (silently (too_long number)) → Runs means start l0 l1 t0 t1 (TooLong number)
-too_long_at means start state texts lines tail number l0 l1 t0 t1 read decides = record {
-  seen = seen_of texts tail;
-  gives = read.gives;
-  is_outcome = (
-    decisive means start texts lines tail l1 (silently (too_long number)) decides,
-    takes_silent means start (seen_of texts tail) lines (too_long number) t0 t1 (judged_now means start texts lines tail _ decides) read.takes,
-  );
-}
-
--- a line that ends the input, with these lines written for it
-abbrev last_line : List (List ℕ) → Judgement
-last_line said = record { lines = said; verdict = ended }
-
-done_at : {S : Type 0} (means : S → List ℕ → Meaning S) (start : S) (texts lines : List (List ℕ)) (tail : List ℕ) (said : List (List ℕ)) (l0 l1 t0 t1 : Option (List ℕ)) → Gives l0 l1 (seen_of texts tail) →
-    Decides means start texts lines tail (last_line said) → Takes t0 t1 (ended_lines lines ++ ended_lines said) → Runs means start l0 l1 t0 t1 Done
-done_at means start texts lines tail said l0 l1 t0 t1 gives decides takes = record {
+decided_at : {S : Type 0} (means : S → List ℕ → Meaning S) (start : S) (texts lines : List (List ℕ)) (tail : List ℕ) (last : Judgement) (l0 l1 t0 t1 : Option (List ℕ)) → Gives l0 l1 (seen_of texts tail) →
+    Decides means start texts lines tail last → Takes t0 t1 (ended_lines lines ++ ended_lines last.lines) → Runs means start l0 l1 t0 t1 (outcome_of last.verdict)
+decided_at means start texts lines tail last l0 l1 t0 t1 gives decides takes = record {
   seen = seen_of texts tail;
   gives = gives;
-  is_outcome = (
-    decisive means start texts lines tail l1 (last_line said) decides,
-    subst (λ (bytes : List ℕ). Takes t0 t1 bytes)
-        (sym (output_judged means start (seen_of texts tail) lines (last_line said) (judged_now means start texts lines tail (last_line said) decides))) takes,
-  );
+  is_outcome = decided means start last.verdict (seen_of texts tail) l1 t0 t1 (decisive means start texts lines tail l1 last decides)
+      (subst (λ (bytes : List ℕ). Takes t0 t1 bytes) (sym (output_judged means start (seen_of texts tail) lines last (judged_now means start texts lines tail last decides))) takes);
 }
+
+-- the same where nothing is written for what decides
+silent_at : {S : Type 0} (means : S → List ℕ → Meaning S) (start state : S) (texts lines : List (List ℕ)) (tail : List ℕ) (verdict : Verdict) (l0 l1 t0 t1 : Option (List ℕ)) →
+    HasRead means start state texts lines tail l0 l1 t0 t1 → Decides means start texts lines tail (silently verdict) → Runs means start l0 l1 t0 t1 (outcome_of verdict)
+silent_at means start state texts lines tail verdict l0 l1 t0 t1 read decides =
+    decided_at means start texts lines tail (silently verdict) l0 l1 t0 t1 read.gives decides (subst (λ (bytes : List ℕ). Takes t0 t1 bytes) (sym (append-nil (ended_lines lines))) read.takes)
 
 -- the input is over
 over_at : {S : Type 0} (means : S → List ℕ → Meaning S) (start state : S) (texts lines : List (List ℕ)) (tail : List ℕ) (l0 l1 t0 t1 : Option (List ℕ)) →
@@ -132,13 +116,11 @@ failed_at means start state texts lines tail l0 l1 t0 t1 read fits few =
 -- memory is wanting
 memory_at : {S : Type 0} (means : S → List ℕ → Meaning S) (start state : S) (texts lines : List (List ℕ)) (tail : List ℕ) (l0 l1 t0 t1 : Option (List ℕ)) →
     HasRead means start state texts lines tail l0 l1 t0 t1 → Runs means start l0 l1 t0 t1 OutOfMemory
-memory_at means start state texts lines tail l0 l1 t0 t1 read =
-    let begins = output_behind means start state texts lines tail read.lead read.whole in
-    record {
-      seen = seen_of texts tail;
-      gives = read.gives;
-      is_outcome = record { front = ended_lines lines; rest = begins.rest; split = begins.split; taken = read.takes };
-    }
+memory_at means start state texts lines tail l0 l1 t0 t1 read = record {
+  seen = seen_of texts tail;
+  gives = read.gives;
+  is_outcome = record { texts = texts; rest = tail; split = refl; whole = read.whole; state = state; lines = lines; lead = read.lead; taken = read.takes };
+}
 
 -- ---- what is pending
 
@@ -236,21 +218,21 @@ decides_at means start number state line kept pending last l0 l1 t0 t1 few fits 
     line_decides means start state way.texts way.lines line kept last way.lead way.whole (omega (arith, way.number_is, few)) fits.one_line fits.short
     (λ later. ap (λ n. judged_by n (means state line) later) (sym way.number_is) ∙ decides later)
 
--- the last line, with what is said for it
-ending_done : {S : Type 0} (means : S → List ℕ → Meaning S) (start : S) (number : ℕ) (state : S) (line kept pending later : List ℕ) (said : List (List ℕ)) (l0 l1 t0 t1 : Option (List ℕ)) →
-    number ≤ most_lines → FitsLine line → IsUnderWay means start number state (line ++ 10 ∷ kept) pending l0 l1 t0 t1 → means state line ≡ ends said →
-    later ≡ pending ++ ended_lines said → IsEnding means start l0 l1 t0 t1 later Done
-ending_done means start number state line kept pending later said l0 l1 t0 t1 few fits way is says =
-    let decides = decides_at means start number state line kept pending (last_line said) l0 l1 t0 t1 few fits way (λ behind_it. ap (λ m. judged_by number m behind_it) is) in
-    let all = said_more t0 t1 pending later (ended_lines way.lines) (ended_lines said) way.said says in
+-- it ends there, with what is said for the line
+ending_at : {S : Type 0} (means : S → List ℕ → Meaning S) (start : S) (number : ℕ) (state : S) (line kept pending later : List ℕ) (last : Judgement) (l0 l1 t0 t1 : Option (List ℕ)) →
+    number ≤ most_lines → FitsLine line → IsUnderWay means start number state (line ++ 10 ∷ kept) pending l0 l1 t0 t1 →
+    ((behind_it : S → Judgement) → judged_by number (means state line) behind_it ≡ last) → later ≡ pending ++ ended_lines last.lines → IsEnding means start l0 l1 t0 t1 later (outcome_of last.verdict)
+ending_at means start number state line kept pending later last l0 l1 t0 t1 few fits way is says =
+    let decides = decides_at means start number state line kept pending last l0 l1 t0 t1 few fits way is in
+    let all = said_more t0 t1 pending later (ended_lines way.lines) (ended_lines last.lines) way.said says in
     let seen = seen_of way.texts (line ++ 10 ∷ kept) in
     record {
-      whole = λ t2 takes. done_at means start way.texts way.lines (line ++ 10 ∷ kept) said l0 l1 t0 t2 way.gives decides (said_taken t0 t1 t2 later _ all takes);
-      part = λ t2 part. cut_of means start seen (ended_lines way.lines ++ ended_lines said) l0 l1 t0 t2 way.gives
+      whole = λ t2 takes. decided_at means start way.texts way.lines (line ++ 10 ∷ kept) last l0 l1 t0 t2 way.gives decides (said_taken t0 t1 t2 later _ all takes);
+      part = λ t2 part. cut_of means start seen (ended_lines way.lines ++ ended_lines last.lines) l0 l1 t0 t2 way.gives
           (record {
             rest = [];
-            split = output_judged means start seen way.lines (last_line said) (judged_now means start way.texts way.lines (line ++ 10 ∷ kept) (last_line said) decides)
-                ∙ sym (append-nil (ended_lines way.lines ++ ended_lines said));
+            split = output_judged means start seen way.lines last (judged_now means start way.texts way.lines (line ++ 10 ∷ kept) last decides)
+                ∙ sym (append-nil (ended_lines way.lines ++ ended_lines last.lines));
           })
           (said_part t0 t1 t2 later _ all part);
     }
@@ -262,17 +244,16 @@ unfolding same_pending
 line_turn means start number state next line kept pending later l0 l1 t0 t1 (Ok done) few fits way is =
     goes_at means start number state next line kept pending later is.0 l0 l1 t0 t1 few fits way is.1 is.2
 line_turn means start number state next line kept pending later l0 l1 t0 t1 (Err Done) few fits way is =
-    ending_done means start number state line kept pending later is.0 l0 l1 t0 t1 few fits way is.1 is.2
+    ending_at means start number state line kept pending later (record { lines = is.0; verdict = ended }) l0 l1 t0 t1 few fits way (λ behind_it. ap (λ m. judged_by number m behind_it) is.1) is.2
+line_turn means start number state next line kept pending later l0 l1 t0 t1 (Err (Differ n)) few fits way is =
+    ending_at means start number state line kept pending later (record { lines = is.1; verdict = differed n }) l0 l1 t0 t1 few fits way
+    (λ behind_it. ap (λ m. judged_by number m behind_it) is.2 ∙ ap (λ (k : ℕ). record { lines = is.1; verdict = differed k }) (sym is.0)) is.3
 line_turn means start number state next line kept pending later l0 l1 t0 t1 (Err (Refused n kind)) few fits way is =
-    let decides = decides_at means start number state line kept pending (silently (refused n kind)) l0 l1 t0 t1 few fits way
-    (λ behind_it. ap (λ m. judged_by number m behind_it) is.1 ∙ ap (λ k. silently (refused k kind)) (sym is.0)) in
-    ending means start number state (line ++ 10 ∷ kept) later l0 l1 t0 t1 (Refused n kind) (same_pending means start number state _ pending later l0 l1 t0 t1 way is.2)
-    (λ t2 read. refused_at means start state _ _ (line ++ 10 ∷ kept) n kind l0 l1 t0 t2 read decides)
+    ending_at means start number state line kept pending later (silently (refused n kind)) l0 l1 t0 t1 few fits way
+    (λ behind_it. ap (λ m. judged_by number m behind_it) is.1 ∙ ap (λ k. silently (refused k kind)) (sym is.0)) (is.2 ∙ sym (append-nil pending))
 line_turn means start number state next line kept pending later l0 l1 t0 t1 (Err (TooLong n)) few fits way is =
-    let decides = decides_at means start number state line kept pending (silently (too_long n)) l0 l1 t0 t1 few fits way
-    (λ behind_it. ap (λ m. judged_by number m behind_it) is.1 ∙ ap (λ k. silently (too_long k)) (sym is.0)) in
-    ending means start number state (line ++ 10 ∷ kept) later l0 l1 t0 t1 (TooLong n) (same_pending means start number state _ pending later l0 l1 t0 t1 way is.2)
-    (λ t2 read. too_long_at means start state _ _ (line ++ 10 ∷ kept) n l0 l1 t0 t2 read decides)
+    ending_at means start number state line kept pending later (silently (too_long n)) l0 l1 t0 t1 few fits way
+    (λ behind_it. ap (λ m. judged_by number m behind_it) is.1 ∙ ap (λ k. silently (too_long k)) (sym is.0)) (is.2 ∙ sym (append-nil pending))
 line_turn means start number state next line kept pending later l0 l1 t0 t1 (Err OutOfMemory) few fits way is =
     ending means start number state (line ++ 10 ∷ kept) later l0 l1 t0 t1 OutOfMemory (same_pending means start number state _ pending later l0 l1 t0 t1 way is)
     (λ t2 read. memory_at means start state _ _ (line ++ 10 ∷ kept) l0 l1 t0 t2 read)
@@ -381,7 +362,7 @@ unfolding way_further
 too_long_next means start number state kept next l0 l1 l2 t0 t1 way read =
     ending means start number state (kept ++ read.taken) [] l0 l2 t0 t1 (TooLong number) (way_further means start number state kept read.taken l0 l1 l2 t0 t1 way read.gives)
     (λ t2 all. subst (λ n. Runs means start l0 l2 t0 t2 (TooLong n)) (sym way.number_is)
-    (too_long_at means start state way.texts way.lines (kept ++ read.taken) (length way.texts + 1) l0 l2 t0 t2 all
+    (silent_at means start state way.texts way.lines (kept ++ read.taken) (too_long (length way.texts + 1)) l0 l2 t0 t2 all
     (past_decides means start state way.texts way.lines (kept ++ read.taken) way.lead way.whole (λ more. IsPastLimit-append (kept ++ read.taken) more read.answer.0))))
 
 no_memory_next : {S : Type 0} (means : S → List ℕ → Meaning S) (start : S) (number : ℕ) (state : S) (kept next : List ℕ) (l0 l1 l2 t0 t1 : Option (List ℕ)) →
@@ -408,7 +389,7 @@ pub most_read : {S : Type 0} (means : S → List ℕ → Meaning S) (start : S) 
 most_read means start number state kept pending l0 l1 t0 t1 most way =
     ending means start number state kept pending l0 l1 t0 t1 (TooLong number) way
     (λ t2 all. subst (λ n. Runs means start l0 l1 t0 t2 (TooLong n)) (sym way.number_is)
-    (too_long_at means start state way.texts way.lines kept (length way.texts + 1) l0 l1 t0 t2 all
+    (silent_at means start state way.texts way.lines kept (too_long (length way.texts + 1)) l0 l1 t0 t2 all
     (most_decides means start state way.texts way.lines kept way.lead way.whole (omega (arith, way.number_is, most)))))
 
 -- before any line

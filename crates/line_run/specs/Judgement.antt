@@ -1,9 +1,9 @@
 -- What is written for the bytes of an input, and which line of it decides.
-use Rattle.std.specs.Prelude.{ℕ, ◌+◌, nat_lt, Bool, ◌||◌, List, [], ◌∷◌, ◌++◌, length, if◌then◌else◌}
+use Rattle.std.specs.Prelude.{◌≡◌, ℕ, ◌+◌, nat_lt, Bool, ◌||◌, List, [], ◌∷◌, ◌++◌, length, if◌then◌else◌}
 use Rattle.io_edge.specs.Lines.{whole_lines, unfinished_line, ended_lines, line_limit}
 use Rattle.net_base.specs.declared.refusal.RefusalKind.{RefusalKind}
 use Rattle.net_base.specs.declared.refusal.RefusalKind.TheVariants.{NoEnd}
-use Rattle.line_run.specs.Meaning.{Meaning, goes_on, ends, is_refused, is_too_many}
+use Rattle.line_run.specs.Meaning.{Meaning, goes_on, ends, differs, is_refused, is_too_many}
 
 -- how many lines an input may have
 abbrev pub most_lines : ℕ
@@ -12,6 +12,7 @@ most_lines = 4000000
 -- how an input ends, and at which line
 pub data Verdict : Type 0 where
   ended : Verdict
+  differed : ℕ → Verdict
   refused : ℕ → RefusalKind → Verdict
   too_long : ℕ → Verdict
 
@@ -35,6 +36,7 @@ is_too_long number text = nat_lt most_lines number || nat_lt line_limit (length 
 abbrev pub judged_by : {S : Type 0} → ℕ → Meaning S → (S → Judgement) → Judgement
 judged_by number (goes_on next lines) later = behind lines (later next)
 judged_by number (ends lines) later = record { lines = lines; verdict = ended }
+judged_by number (differs lines) later = record { lines = lines; verdict = differed number }
 judged_by number (is_refused kind) later = silently (refused number kind)
 judged_by number is_too_many later = silently (too_long number)
 
@@ -59,3 +61,8 @@ output_of means start bytes = ended_lines (judged means start bytes).lines
 
 abbrev pub verdict_of : {S : Type 0} → (S → List ℕ → Meaning S) → S → List ℕ → Verdict
 verdict_of means start bytes = (judged means start bytes).verdict
+
+-- Lines lead to this interpreter, and these lines are written for them: whatever follows is judged from here.
+abbrev pub Lead : {S : Type 0} → (S → List ℕ → Meaning S) → S → List (List ℕ) → S → List (List ℕ) → Type 0
+Lead means start texts state lines = (more : List (List ℕ)) (rest : List ℕ) →
+    judged_from means 1 start (texts ++ more) rest ≡ behind lines (judged_from means (length texts + 1) state more rest)

@@ -2,18 +2,13 @@
 use Rattle.std.specs.Prelude.{◌≡◌, ℕ, ◌+◌, List, ◌∷◌, ◌++◌, length, All, Option, Result, Ok, Err}
 use Rattle.io_edge.specs.Lines.{HasNoLineFeed, FitsLine, ended_lines}
 use Rattle.io_edge.specs.Told.{Gives, Takes, TakesProperPrefix}
-use Rattle.line_run.specs.Meaning.{Meaning, goes_on, ends, is_refused, is_too_many, Says}
-use Rattle.line_run.specs.Judgement.{behind, judged_from}
+use Rattle.line_run.specs.Meaning.{Meaning, goes_on, ends, differs, is_refused, is_too_many, Says}
+use Rattle.line_run.specs.Judgement.{Lead}
 use Rattle.line_run.specs.Runs.{Runs}
 use Rattle.line_run.specs.declared.outcome.LineOutcome.{LineOutcome}
 use Rattle.line_run.specs.declared.stop.Stop.{Stop}
-use Rattle.line_run.specs.declared.stop.Stop.TheVariants.{Ended, Refused as LineRefused, TooMany, OutOfMemory as NoMemory}
-use Rattle.line_run.specs.declared.outcome.LineOutcome.TheVariants.{Done, Refused, ReadFault, WriteFault, OutOfMemory, TooLong}
-
--- Lines lead to this interpreter, and these lines are written for them: whatever follows is judged from here.
-abbrev pub Lead : {S : Type 0} → (S → List ℕ → Meaning S) → S → List (List ℕ) → S → List (List ℕ) → Type 0
-Lead means start texts state lines = (more : List (List ℕ)) (rest : List ℕ) →
-    judged_from means 1 start (texts ++ more) rest ≡ behind lines (judged_from means (length texts + 1) state more rest)
+use Rattle.line_run.specs.declared.stop.Stop.TheVariants.{Ended, Differs, Refused as LineRefused, TooMany, OutOfMemory as NoMemory}
+use Rattle.line_run.specs.declared.outcome.LineOutcome.TheVariants.{Done, Differ, Refused, ReadFault, WriteFault, OutOfMemory, TooLong}
 
 -- What was said is what the sink took in this call, and behind it what is pending still.
 pub record HasSaid (before now : Option (List ℕ)) (pending said : List ℕ) : Type 0 where
@@ -42,6 +37,7 @@ abbrev pub Ends : {S : Type 0} → (S → List ℕ → Meaning S) → S → Opti
 Ends means start left_before left_now taken_before taken_now pending ReadFault = Runs means start left_before left_now taken_before taken_now ReadFault
 Ends means start left_before left_now taken_before taken_now pending WriteFault = Runs means start left_before left_now taken_before taken_now WriteFault
 Ends means start left_before left_now taken_before taken_now pending Done = IsEnding means start left_before left_now taken_before taken_now pending Done
+Ends means start left_before left_now taken_before taken_now pending (Differ line) = IsEnding means start left_before left_now taken_before taken_now pending (Differ line)
 Ends means start left_before left_now taken_before taken_now pending (Refused line kind) = IsEnding means start left_before left_now taken_before taken_now pending (Refused line kind)
 Ends means start left_before left_now taken_before taken_now pending OutOfMemory = IsEnding means start left_before left_now taken_before taken_now pending OutOfMemory
 Ends means start left_before left_now taken_before taken_now pending (TooLong line) = IsEnding means start left_before left_now taken_before taken_now pending (TooLong line)
@@ -60,6 +56,7 @@ IsTurn means start number next kept pending left_before left_now taken_before ta
 -- how the run ends where its interpreter stops at the line with a number
 abbrev pub outcome_at : ℕ → Stop → LineOutcome
 outcome_at number Ended = Done
+outcome_at number Differs = Differ number
 outcome_at number (LineRefused kind) = Refused number kind
 outcome_at number TooMany = TooLong number
 outcome_at number NoMemory = OutOfMemory
@@ -68,6 +65,7 @@ outcome_at number NoMemory = OutOfMemory
 abbrev pub IsInterpretedAt : {S : Type 0} → ℕ → Meaning S → S → List ℕ → List ℕ → Result (Unit {0}) LineOutcome → Type 0
 IsInterpretedAt number meaning next before after (Ok done) = (lines : List (List ℕ)) × (meaning ≡ goes_on next lines) × Says before after lines
 IsInterpretedAt number meaning next before after (Err Done) = (lines : List (List ℕ)) × (meaning ≡ ends lines) × Says before after lines
+IsInterpretedAt number meaning next before after (Err (Differ line)) = (line ≡ number) × (lines : List (List ℕ)) × (meaning ≡ differs lines) × Says before after lines
 IsInterpretedAt number meaning next before after (Err (Refused line kind)) = (line ≡ number) × (meaning ≡ is_refused kind) × (after ≡ before)
 IsInterpretedAt number meaning next before after (Err (TooLong line)) = (line ≡ number) × (meaning ≡ is_too_many) × (after ≡ before)
 IsInterpretedAt number meaning next before after (Err OutOfMemory) = after ≡ before

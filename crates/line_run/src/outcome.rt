@@ -5,6 +5,8 @@ use net_base::RefusalKind;
 pub enum LineOutcome {
     /// The input was read to its last line.
     Done,
+    /// The first line that isn't the one that is wanted there.
+    Differ { line: u64 },
     /// The first line that is refused, or the one inside or before which the input ended.
     Refused { line: u64, kind: RefusalKind },
     ReadFault,

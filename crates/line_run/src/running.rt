@@ -166,6 +166,7 @@ fn outcome_at(number: u64, stop: Stop) -> LineOutcome
 {
     match stop {
         Stop::Ended => LineOutcome::Done,
+        Stop::Differs => LineOutcome::Differ { line: number },
         Stop::Refused(kind) => LineOutcome::Refused { line: number, kind },
         Stop::TooMany => LineOutcome::TooLong { line: number },
         Stop::OutOfMemory => LineOutcome::OutOfMemory,

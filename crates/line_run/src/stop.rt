@@ -6,6 +6,8 @@ use trace_text::LineRefusal;
 pub enum Stop {
     /// The line is the last one.
     Ended,
+    /// The line isn't the one that is wanted there.
+    Differs,
     Refused(RefusalKind),
     /// The line goes past a limit of the interpreter's own.
     TooMany,

@@ -3,7 +3,7 @@ use Rattle.std.specs.Prelude.{ℕ, ◌+◌, nat_le, List, [], ◌∷◌, map, ta
 use Rattle.io_edge.specs.Lines.{whole_lines}
 use Rattle.line_run.specs.Inputs.{IsRunOver}
 use Rattle.line_run.specs.Judgement.{Verdict, verdict_of}
-use Rattle.line_run.specs.Meaning.{Meaning, goes_on, ends, is_refused, is_too_many}
+use Rattle.line_run.specs.Meaning.{Meaning, goes_on, ends, differs, is_refused, is_too_many}
 use Rattle.line_run.specs.Refusals.{if_read}
 use Rattle.line_run.specs.Runs.{Runs}
 use Rattle.line_run.specs.declared.outcome.LineOutcome.{LineOutcome}
@@ -60,6 +60,7 @@ clients_verdict rules = verdict_of line_means (nobody rules)
 abbrev pub led_by : Meaning ClientsState → ClientsState → ClientsState
 led_by (goes_on next lines) c = next
 led_by (ends lines) c = c
+led_by (differs lines) c = c
 led_by (is_refused kind) c = c
 led_by is_too_many c = c
 

@@ -11,5 +11,5 @@ mod Refusals
 mod Across
 pub mod Reached
 pub mod InTurn
-mod Playing
+pub mod Playing
 mod Led

@@ -5,7 +5,7 @@ use Rattle.line_run.specs.Inputs.{IsRunOver}
 use Rattle.line_run.specs.Judgement.{Verdict, verdict_of}
 use Rattle.line_run.specs.Runs.{Runs}
 use Rattle.line_run.specs.declared.outcome.LineOutcome.{LineOutcome}
-use Rattle.line_run.specs.Meaning.{Meaning, goes_on, ends, is_refused, is_too_many, Says}
+use Rattle.line_run.specs.Meaning.{Meaning, goes_on, ends, differs, is_refused, is_too_many, Says}
 use Rattle.line_run.specs.Refusals.{if_read}
 use Rattle.line_run.specs.declared.stop.Stop.{Stop}
 use Rattle.line_run.specs.declared.stop.Stop.TheVariants as stop
@@ -50,6 +50,7 @@ IsOffered (Steps pair count) = Unit {0}
 abbrev pub IsMeant : Meaning Progress → List ℕ → List ℕ → Result Progress Stop → Type 0
 IsMeant meaning before after (Ok next) = (lines : List (List ℕ)) × (meaning ≡ goes_on next lines) × Says before after lines
 IsMeant meaning before after (Err stop.Ended) = (lines : List (List ℕ)) × (meaning ≡ ends lines) × Says before after lines
+IsMeant meaning before after (Err stop.Differs) = (lines : List (List ℕ)) × (meaning ≡ differs lines) × Says before after lines
 IsMeant meaning before after (Err (stop.Refused kind)) = (meaning ≡ is_refused kind) × (after ≡ before)
 IsMeant meaning before after (Err stop.TooMany) = (meaning ≡ is_too_many) × (after ≡ before)
 IsMeant meaning before after (Err stop.OutOfMemory) = after ≡ before
@@ -78,6 +79,7 @@ pair_verdict = verdict_of line_means pair_start
 abbrev pub led_by : Meaning Progress → Progress → Progress
 led_by (goes_on next lines) progress = next
 led_by (ends lines) progress = progress
+led_by (differs lines) progress = progress
 led_by (is_refused kind) progress = progress
 led_by is_too_many progress = progress
 

@@ -11,7 +11,7 @@ use Rattle.trace_text.specs.Stages.{first_stage}
 use Rattle.trace_text.specs.declared.line.Line.{Line}
 use Rattle.trace_text.specs.declared.line.Line.TheVariants.{Head, Happen, Acted, End}
 use Rattle.trace_meaning.specs.Reading.{Reading, said_at, reading_at, stage_behind, readings_from, heads_in, events_in}
-use Rattle.line_run.specs.Judgement.{Verdict, ended, refused, too_long}
+use Rattle.line_run.specs.Judgement.{Verdict, ended, differed, refused, too_long}
 use Rattle.trace_meaning.specs.Judgement.{verdict_by, number_behind}
 use Rattle.trace_meaning.specs.Output.{start_in, lines_for, last_lines}
 use Rattle.trace_meaning.specs.Passing.{texts_of, PassBehind, ArePassed}
@@ -165,6 +165,7 @@ goes_on_quietly readings texts front pass =
 -- and behind that the last line
 pub BeginsQuietly-last : (rest : List (List ℕ)) (verdict : Verdict) → BeginsQuietly rest → BeginsQuietly (rest ++ last_lines verdict)
 BeginsQuietly-last [] ended quiet = refl
+BeginsQuietly-last [] (differed number) quiet = tt
 BeginsQuietly-last [] (refused number kind) quiet = tt
 BeginsQuietly-last [] (too_long number) quiet = tt
 BeginsQuietly-last (first ∷ rest) verdict quiet = quiet

@@ -12,7 +12,7 @@ use Rattle.trace_text.specs.declared.line.Line.{Line}
 use Rattle.trace_text.specs.declared.line.Line.TheVariants.{End}
 use Rattle.trace_text.specs.declared.stage.Stage.{Stage}
 use Rattle.trace_meaning.specs.Reading.{Reading, said_at, reading_at, stage_behind, events_in}
-use Rattle.line_run.specs.Judgement.{Verdict, ended, refused, too_long}
+use Rattle.line_run.specs.Judgement.{Verdict, ended, differed, refused, too_long}
 use Rattle.trace_meaning.specs.Judgement.{verdict_by, number_behind, Judgement, judged}
 use Rattle.trace_meaning.specs.Output.{lines_for, last_lines}
 use Rattle.trace_meaning.specs.Passing.{texts_of}
@@ -131,6 +131,7 @@ agrees_to_end j e = by_difference (first_difference 1 (lines_found j) (lines_wri
   where
     by_verdict : (verdict : Verdict) → j.verdict ≡ verdict → outcome_told (agreement j.passed verdict) ≡ Done → j.verdict ≡ ended
     by_verdict ended is e = is
+    by_verdict (differed line) is e = absurd cc
     by_verdict (refused line kind) is e = absurd cc
     by_verdict (too_long line) is e = absurd cc
 

@@ -5,7 +5,6 @@ use Rattle.std.proofs.lemmas.Bool.{both_ways}
 use Rattle.std.proofs.lemmas.List.{append_assoc, append-nil, length-map, map-append}
 use Rattle.std.proofs.lemmas.List.Elements.{All-head}
 use Rattle.std.proofs.lemmas.Slice.Eq.{bytes_eq-Decides}
-use Rattle.io_edge.specs.Lines.{HasNoLineFeed, whole_lines, unfinished_line}
 use Rattle.trace_text.specs.Lines.{is_action_line}
 use Rattle.trace_text.specs.Stages.{first_stage}
 use Rattle.trace_meaning.specs.Reading.{Reading, reading_at, stage_behind, readings_from, events_in}
@@ -21,10 +20,9 @@ use Rattle.trace_compare.specs.Compare.{IsAction}
 use Rattle.trace_meaning.specs.declared.outcome.Outcome.TheVariants.{Done}
 use Rattle.trace_compare.proofs.Added.{IsAdded, Adds, BeginsQuietly, BeginsQuietly-last, goes_on_quietly}
 use Rattle.trace_compare.proofs.Again.{output_lines}
-use Rattle.trace_meaning.proofs.Judging.{judgement_of, judged_behind}
+use Rattle.trace_meaning.proofs.Judging.{judgement_of}
 use Rattle.trace_meaning.proofs.Prefixes.{judged_from-continues}
 use Rattle.trace_meaning.proofs.Readings.{AreFront-passed}
-use Rattle.trace_meaning.proofs.Deciding.{seen_of}
 
 -- ---- lists of lines
 
@@ -142,16 +140,17 @@ due_next (next ∷ due) lines written line actions added apart quiet =
 texts_push : (readings : List Reading) (reading : Reading) → texts_of (readings ++ reading ∷ []) ≡ texts_of readings ++ reading.text ∷ []
 texts_push readings reading = map-append (λ (r : Reading). r.text) readings (reading ∷ [])
 
-pub line_differs : (readings : List Reading) (text tail : List ℕ) (due : List (List ℕ)) → let reading = reading_at (stage_behind readings first_stage) text in
-    lines_for readings ≡ texts_of readings ++ due → All IsAction due → (added : Adds readings reading) → ¬ (first_of (due ++ added.lines) ≡ Some text) →
-    ArePassed (readings ++ reading ∷ []) → All HasNoLineFeed (texts_of (readings ++ reading ∷ [])) →
-    comparison_of (seen_of (readings ++ reading ∷ []) tail) ≡ differ (record { line = 1 + length readings; found = text; want = first_of (due ++ added.lines) })
-line_differs readings text tail due agrees actions added apart passed whole =
+-- whatever lines stand behind it
+pub line_differs : (readings : List Reading) (text : List ℕ) (texts : List (List ℕ)) (rest : List ℕ) (due : List (List ℕ)) → let reading = reading_at (stage_behind readings first_stage) text in
+    lines_for readings ≡ texts_of readings ++ due → All IsAction due → (added : Adds readings reading) → ¬ (first_of (due ++ added.lines) ≡ Some text) → ArePassed (readings ++ reading ∷ []) →
+    comparison_for (judged_from (readings ++ reading ∷ []) (readings_from (stage_behind (readings ++ reading ∷ []) first_stage) texts) rest)
+    ≡ differ (record { line = 1 + length readings; found = text; want = first_of (due ++ added.lines) })
+line_differs readings text texts rest due agrees actions added apart passed =
     let stage = stage_behind readings first_stage in
     let reading = reading_at stage text in
     let further = readings ++ reading ∷ [] in
-    let j = judged_from further (readings_from (stage_behind further first_stage) (whole_lines tail)) (unfinished_line tail) in
-    let on = judged_from-continues further (whole_lines tail) (unfinished_line tail) in
+    let j = judged_from further (readings_from (stage_behind further first_stage) texts) rest in
+    let on = judged_from-continues further texts rest in
     let later = readings_from (stage_behind further first_stage) on.texts in
     let quiet = goes_on_quietly further on.texts (AreFront-passed further passed) on.pass in
     let last = last_lines j.verdict in
@@ -166,8 +165,7 @@ line_differs readings text tail due agrees actions added apart passed whole =
     ∙ append_assoc (texts_of readings) ((due ++ added.lines) ++ quiet.rest) last
     ∙ ap (λ (ls : List (List ℕ)). texts_of readings ++ ls) (append_assoc (due ++ added.lines) quiet.rest last) in
     let is = due_next due added.lines (quiet.rest ++ last) text actions added.kind apart (BeginsQuietly-last quiet.rest j.verdict quiet.quiet) in
-    ap comparison_for (judged_behind further tail passed whole)
-    ∙ compared_differs j (texts_of readings) (texts_of later ++ last) _ text _ found written is.other is.due
+    compared_differs j (texts_of readings) (texts_of later ++ last) _ text _ found written is.other is.due
     ∙ ap (λ (n : ℕ). differ (record { line = 1 + n; found = text; want = first_of (due ++ added.lines) })) (length-map readings (λ (r : Reading). r.text))
 
 -- ---- `end` while an action is due

@@ -8,7 +8,7 @@ use Rattle.trace_text.specs.declared.line.Line.{Line}
 use Rattle.trace_text.specs.declared.line.Line.TheVariants.{Head, Happen, Acted, End}
 use Rattle.trace_text.specs.declared.line.LineRefusal.{LineRefusal}
 use Rattle.trace_meaning.specs.Reading.{Reading, events_in}
-use Rattle.line_run.specs.Judgement.{Verdict, ended, refused, too_long}
+use Rattle.line_run.specs.Judgement.{Verdict, ended, differed, refused, too_long}
 use Rattle.trace_meaning.specs.Judgement.{Judgement, judged}
 use Rattle.trace_meaning.specs.Output.{lines_for, last_lines}
 use Rattle.trace_meaning.specs.Passing.{texts_of}
@@ -64,9 +64,10 @@ is_acted (Err refusal) = false
 abbrev pub actions_in : List Reading → ℕ
 actions_in readings = length (filter (λ reading. is_acted reading.says) readings)
 
--- what it comes to where no line differs
+-- What it comes to where no line differs. No line of a trace differs by itself; that case is none of it.
 abbrev pub agreement : List Reading → Verdict → Comparison
 agreement passed ended = agree (length (events_in passed)) (actions_in passed)
+agreement passed (differed line) = differ (difference_at line [] [])
 agreement passed (refused line kind) = refused_at line kind
 agreement passed (too_long line) = too_long_at line
 

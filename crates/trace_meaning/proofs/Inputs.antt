@@ -8,7 +8,7 @@ use Rattle.net_base.specs.Bounds.{AreSound}
 use Rattle.net_base.specs.declared.refusal.RefusalKind.{RefusalKind}
 use Rattle.trace_meaning.specs.Reading.{stage_behind, heads_in}
 use Rattle.trace_meaning.specs.Settings.{settings_in}
-use Rattle.line_run.specs.Judgement.{Verdict, ended, refused, too_long}
+use Rattle.line_run.specs.Judgement.{Verdict, ended, differed, refused, too_long}
 use Rattle.trace_meaning.specs.Judgement.{judged}
 use Rattle.trace_meaning.specs.Output.{output_for, output_of}
 use Rattle.trace_meaning.specs.Passing.{ArePassed}
@@ -26,16 +26,19 @@ use Rattle.trace_meaning.proofs.Prefixes.{judged_from-continues, ArePassed-lines
 
 verdict_done : (verdict : Verdict) → Done ≡ outcome_of verdict → verdict ≡ ended
 verdict_done ended e = refl
+verdict_done (differed line) e = absurd cc
 verdict_done (refused line kind) e = absurd cc
 verdict_done (too_long line) e = absurd cc
 
 verdict_refused : (verdict : Verdict) (line : ℕ) (kind : RefusalKind) → Refused line kind ≡ outcome_of verdict → verdict ≡ refused line kind
 verdict_refused ended line kind e = absurd cc
+verdict_refused (differed n) line kind e = absurd cc
 verdict_refused (refused n k) line kind e = cc
 verdict_refused (too_long n) line kind e = absurd cc
 
 verdict_too_long : (verdict : Verdict) (line : ℕ) → TooLong line ≡ outcome_of verdict → verdict ≡ too_long line
 verdict_too_long ended line e = absurd cc
+verdict_too_long (differed n) line e = absurd cc
 verdict_too_long (refused n k) line e = absurd cc
 verdict_too_long (too_long n) line e = cc
 

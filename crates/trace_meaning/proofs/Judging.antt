@@ -1,14 +1,12 @@
 -- The line that decides, by what was read so far and what stands behind it.
-use Rattle.std.proofs.Common.{◌≡◌, ℕ, ◌<◌, ◌≤◌, true, false, ltb, List, [], ◌∷◌, ◌++◌, length, All, Some, None, ⊎_elim, refl, sym, ap, ◌∙◌, subst, arith}
-use Rattle.std.specs.List.{before_first, after_first, position_or_len}
-use Rattle.std.proofs.lemmas.Bool.{or_left, or_right, or_from, lt-ltb, le-ltb, cases_lt}
+use Rattle.std.proofs.Common.{◌≡◌, ℕ, ◌<◌, ◌≤◌, false, ltb, List, [], ◌∷◌, ◌++◌, length, All, Some, None, refl, sym, ap, ◌∙◌, subst, arith}
+use Rattle.std.proofs.lemmas.Bool.{or_from, le-ltb}
 use Rattle.std.proofs.lemmas.List.{append_assoc, append-nil, map-append}
-use Rattle.io_edge.specs.Lines.{is_line_feed, HasNoLineFeed, whole_lines, unfinished_line, ended_lines, line_limit, IsPastLimit}
-use Rattle.io_edge.proofs.LineLemmas.{whole_lines-ended, unfinished_line-ended, whole_lines-line, whole_lines-none, unfinished_line-none, first_cut, before_first-none, HasNoLineFeed-before_first, HasNoLineFeed-not_found}
-use Rattle.net_base.specs.declared.refusal.RefusalKind.TheVariants.{NoEnd}
+use Rattle.io_edge.specs.Lines.{HasNoLineFeed, whole_lines, unfinished_line, ended_lines, line_limit}
+use Rattle.io_edge.proofs.LineLemmas.{whole_lines-ended, unfinished_line-ended, whole_lines-line}
 use Rattle.trace_text.specs.Stages.{first_stage}
 use Rattle.trace_meaning.specs.Reading.{Reading, reading_at, stage_behind, readings_from, readings_of, events_in}
-use Rattle.line_run.specs.Judgement.{Verdict, refused, too_long, most_lines, is_too_long, verdict_of_rest}
+use Rattle.line_run.specs.Judgement.{Verdict, most_lines, is_too_long}
 use Rattle.trace_meaning.specs.Judgement.{verdict_by, verdict_at, number_behind, Judgement, judged_from, judged}
 use Rattle.trace_meaning.specs.Passing.{texts_of, PassBehind, ArePassed}
 use Rattle.trace_meaning.proofs.Readings.{readings_from-append}
@@ -59,58 +57,11 @@ judged_line readings line more verdict passed clean one decides =
     ∙ ap (λ (lines : List (List ℕ)). judged_from readings (readings_from stage lines) (unfinished_line (line ++ 10 ∷ more))) (whole_lines-line line more one)
     ∙ decides_first readings (reading_at stage line) _ _ verdict decides
 
--- the bytes end within a line
-pub judged_rest : (readings : List Reading) (tail : List ℕ) → ArePassed readings → All HasNoLineFeed (texts_of readings) → HasNoLineFeed tail →
-    judged (ended_lines (texts_of readings) ++ tail) ≡ judgement_of readings (verdict_of_rest (number_behind readings) tail)
-unfolding readings_from judged_from
-judged_rest readings tail passed clean one =
-    judged_behind readings tail passed clean ∙ rw (whole_lines-none tail one, unfinished_line-none tail one) refl
-
--- a line that is too long, whether or not a line feed ends it
-pub judged_too_long : (readings : List Reading) (tail : List ℕ) → ArePassed readings → All HasNoLineFeed (texts_of readings) →
-    is_too_long (number_behind readings) (before_first is_line_feed tail) ≡ true →
-    judged (ended_lines (texts_of readings) ++ tail) ≡ judgement_of readings (too_long (number_behind readings))
-judged_too_long readings tail passed clean long =
-    ⊎_elim (in_line readings tail passed clean long) (in_rest readings tail passed clean long) (cases_lt (position_or_len is_line_feed tail) (length tail))
-  where
-    in_line : (readings : List Reading) (tail : List ℕ) → ArePassed readings → All HasNoLineFeed (texts_of readings) →
-        is_too_long (number_behind readings) (before_first is_line_feed tail) ≡ true → position_or_len is_line_feed tail < length tail →
-        judged (ended_lines (texts_of readings) ++ tail) ≡ judgement_of readings (too_long (number_behind readings))
-    in_line readings tail passed clean long found =
-        let line = before_first is_line_feed tail in
-        let decides : verdict_at readings (reading_at (stage_behind readings first_stage) line) ≡ Some (too_long (number_behind readings)) = rw long refl in
-        ap (λ (bytes : List ℕ). judged (ended_lines (texts_of readings) ++ bytes)) (first_cut tail found)
-        ∙ judged_line readings line (after_first is_line_feed tail) (too_long (number_behind readings)) passed clean (HasNoLineFeed-before_first tail) decides
-
-    in_rest : (readings : List Reading) (tail : List ℕ) → ArePassed readings → All HasNoLineFeed (texts_of readings) →
-        is_too_long (number_behind readings) (before_first is_line_feed tail) ≡ true → length tail ≤ position_or_len is_line_feed tail →
-        judged (ended_lines (texts_of readings) ++ tail) ≡ judgement_of readings (too_long (number_behind readings))
-    in_rest readings tail passed clean long far =
-        let one = HasNoLineFeed-not_found tail far in
-        let here : is_too_long (number_behind readings) tail ≡ true = ap (is_too_long (number_behind readings)) (sym (before_first-none tail one)) ∙ long in
-        let verdict : verdict_of_rest (number_behind readings) tail ≡ too_long (number_behind readings) = rw here refl in
-        judged_rest readings tail passed clean one ∙ ap (judgement_of readings) verdict
-
--- too long by its bytes
-pub long_by_bytes : (readings : List Reading) (tail : List ℕ) → IsPastLimit tail → is_too_long (number_behind readings) (before_first is_line_feed tail) ≡ true
-long_by_bytes readings tail past =
-    or_right (ltb most_lines (number_behind readings)) (ltb line_limit (length (before_first is_line_feed tail))) (lt-ltb line_limit (length (before_first is_line_feed tail)) past)
-
--- too long by its number
-pub long_by_number : (readings : List Reading) (text : List ℕ) → most_lines ≤ length readings → is_too_long (number_behind readings) text ≡ true
-long_by_number readings text most =
-    or_left (ltb most_lines (number_behind readings)) (ltb line_limit (length text)) (lt-ltb most_lines (number_behind readings) (omega arith))
-
 -- short enough by both
-pub short_enough : (readings : List Reading) (text : List ℕ) → length readings < most_lines → length text ≤ line_limit → is_too_long (number_behind readings) text ≡ false
+short_enough : (readings : List Reading) (text : List ℕ) → length readings < most_lines → length text ≤ line_limit → is_too_long (number_behind readings) text ≡ false
 short_enough readings text few short =
     or_from (ltb most_lines (number_behind readings)) (ltb line_limit (length text))
     (le-ltb most_lines (number_behind readings) (omega arith)) (le-ltb line_limit (length text) short)
-
--- what the bytes behind the last line feed decide where they are short enough
-pub rest_refused : (readings : List Reading) (tail : List ℕ) → length readings < most_lines → length tail ≤ line_limit →
-    verdict_of_rest (number_behind readings) tail ≡ refused (number_behind readings) NoEnd
-rest_refused readings tail few short = rw (short_enough readings tail few short) refl
 
 -- one whole line decides by what it says
 pub verdict_at-short : (readings : List Reading) (reading : Reading) → length readings < most_lines → length reading.text ≤ line_limit →

@@ -1,4 +1,3 @@
-pub mod Deciding
 pub mod Grammar
 pub mod Heads
 pub mod Inputs

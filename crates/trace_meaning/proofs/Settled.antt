@@ -7,7 +7,7 @@ use Rattle.trace_text.specs.Stages.{first_stage}
 use Rattle.trace_text.specs.declared.line.Line.{Line}
 use Rattle.trace_text.specs.declared.line.Line.TheVariants.{Head, Happen, Acted, End}
 use Rattle.trace_text.specs.declared.line.LineRefusal.{LineRefusal}
-use Rattle.line_run.specs.Judgement.{Verdict, ended, refused, too_long, is_too_long, verdict_of_rest}
+use Rattle.line_run.specs.Judgement.{Verdict, ended, differed, refused, too_long, is_too_long, verdict_of_rest}
 use Rattle.line_run.specs.Refusals.{kind_of}
 use Rattle.trace_meaning.specs.Reading.{Reading, stage_behind, readings_from, readings_of, events_in}
 use Rattle.trace_meaning.specs.Judgement.{most_events, verdict_by, verdict_at, number_behind, Judgement, judged_at, judged_from, judged}
@@ -19,6 +19,7 @@ use Rattle.trace_meaning.proofs.Prefixes.{judged_from-continues, decided_or_pass
 -- the line with this number decides
 abbrev HasNumber : ℕ → Verdict → Type 0
 HasNumber n ended = Unit {0}
+HasNumber n (differed line) = line ≡ n
 HasNumber n (refused line kind) = line ≡ n
 HasNumber n (too_long line) = line ≡ n
 

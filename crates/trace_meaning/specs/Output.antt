@@ -8,7 +8,7 @@ use Rattle.net_base.specs.declared.action.Action.{Action}
 use Rattle.trace_text.specs.Actions.{printed_action}
 use Rattle.trace_meaning.specs.Reading.{Reading, heads_in, events_in, head_in, event_in}
 use Rattle.trace_meaning.specs.Settings.{settings_in}
-use Rattle.line_run.specs.Judgement.{Verdict, ended, refused, too_long}
+use Rattle.line_run.specs.Judgement.{Verdict, ended, differed, refused, too_long}
 use Rattle.trace_meaning.specs.Judgement.{Judgement, judged}
 
 abbrev pub text_if : {A : Type 0} → Option A → List ℕ → Option (List ℕ)
@@ -39,8 +39,10 @@ told_events readings = flat_map told_event (zip (event_texts readings) (actions_
 abbrev pub lines_for : List Reading → List (List ℕ)
 lines_for readings = head_texts readings ++ told_events readings
 
+-- No line of a trace differs by itself; that case is none of it.
 abbrev pub last_lines : Verdict → List (List ℕ)
 last_lines ended = codes "end" ∷ []
+last_lines (differed number) = []
 last_lines (refused number kind) = []
 last_lines (too_long number) = []
 

@@ -3,7 +3,7 @@ use Rattle.std.specs.Prelude.{◌≡◌, ℕ, ◌+◌, List, ◌++◌, length, O
 use Rattle.io_edge.specs.Lines.{whole_lines}
 use Rattle.io_edge.specs.Told.{Gives, Takes, TakesProperPrefix}
 use Rattle.net_base.specs.declared.refusal.RefusalKind.TheVariants.{NoEnd}
-use Rattle.line_run.specs.Judgement.{Verdict, ended, refused, too_long}
+use Rattle.line_run.specs.Judgement.{Verdict, ended, differed, refused, too_long}
 use Rattle.line_run.specs.Runs.{TakesPrefix}
 use Rattle.trace_meaning.specs.Judgement.{judged}
 use Rattle.trace_meaning.specs.Output.{output_of}
@@ -16,6 +16,7 @@ verdict_of bytes = (judged bytes).verdict
 -- how a verdict is told
 abbrev pub outcome_of : Verdict → Outcome
 outcome_of ended = Done
+outcome_of (differed line) = Differ line
 outcome_of (refused line kind) = Refused line kind
 outcome_of (too_long line) = TooLong line
 

@@ -38,6 +38,7 @@ impl From<LineOutcome> for Outcome {
     fn from(outcome: LineOutcome) -> Self {
         match outcome {
             LineOutcome::Done => Outcome::Done,
+            LineOutcome::Differ { line } => Outcome::Differ { line },
             LineOutcome::Refused { line, kind } => Outcome::Refused { line, kind },
             LineOutcome::ReadFault => Outcome::ReadFault,
             LineOutcome::WriteFault => Outcome::WriteFault,

@@ -34,13 +34,13 @@ reported l0 l1 t0 t1 input seen outcome gives told compared takes =
     }
 
 -- a trace that is refused or too long has an empty report
-silent_refused : (c : Comparison) (line : ℕ) (kind : RefusalKind) → Refused line kind ≡ outcome_told c → report_lines c ≡ []
+pub silent_refused : (c : Comparison) (line : ℕ) (kind : RefusalKind) → Refused line kind ≡ outcome_told c → report_lines c ≡ []
 silent_refused (agree events actions) line kind e = absurd cc
 silent_refused (differ difference) line kind e = absurd cc
 silent_refused (refused_at n k) line kind e = refl
 silent_refused (too_long_at n) line kind e = refl
 
-silent_too_long : (c : Comparison) (line : ℕ) → TooLong line ≡ outcome_told c → report_lines c ≡ []
+pub silent_too_long : (c : Comparison) (line : ℕ) → TooLong line ≡ outcome_told c → report_lines c ≡ []
 silent_too_long (agree events actions) line e = absurd cc
 silent_too_long (differ difference) line e = absurd cc
 silent_too_long (refused_at n k) line e = refl

@@ -1,4 +1,5 @@
 pub mod CheckInputs
-pub mod CheckWays
+pub mod CheckLines
+pub mod CheckRuns
 pub mod Playing
 pub mod Runs

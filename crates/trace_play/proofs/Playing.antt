@@ -2,7 +2,7 @@
 use Rattle.std.proofs.Common.{◌≡◌, ℕ, ◌+◌, ◌<◌, ◌≤◌, Bool, true, false, cond, leb, List, [], ◌∷◌, ◌++◌, length, Option, Some, None, IfSome, IfOk, OnOk, Result, Ok, Err, refl, sym, ap, ◌∙◌, subst, arith, leb-true, leb-false}
 use Rattle.std.proofs.lemmas.Bool.{lt-leb, le-leb}
 use Rattle.std.proofs.lemmas.List.{append-nil, length_push}
-use Rattle.io_edge.specs.Lines.{ended_lines, line_limit}
+use Rattle.io_edge.specs.Lines.{ended_lines}
 use Rattle.machine.specs.Machine.{Machine, start_of}
 use Rattle.machine.specs.Run.{after_all}
 use Rattle.machine.specs.Step.{step}
@@ -18,20 +18,21 @@ use Rattle.trace_text.specs.declared.stage.Stage.{Stage}
 use Rattle.trace_meaning.specs.Heads.{AreHeads}
 use Rattle.trace_meaning.specs.Reading.{Reading, said_at, reading_at, stage_behind, heads_in, events_in}
 use Rattle.trace_meaning.specs.Settings.{settings_in}
-use Rattle.line_run.specs.Judgement.{Verdict, ended, refused, too_long, is_too_long, most_lines}
-use Rattle.line_run.specs.Meaning.{Meaning, goes_on, ends, is_refused, is_too_many, IsInterpreted}
+use Rattle.line_run.specs.Judgement.{Verdict, ended, refused, too_long, is_too_long}
+use Rattle.line_run.specs.Meaning.{Meaning, goes_on, ends, differs, is_refused, is_too_many, IsInterpreted}
+use Rattle.line_run.proofs.Differing.{NeverDiffers}
 use Rattle.line_run.specs.Refusals.{if_read, kind_of, stop_of}
 use Rattle.line_run.specs.declared.stop.Stop.{Stop}
-use Rattle.line_run.specs.declared.stop.Stop.TheVariants.{Ended, Refused, TooMany, OutOfMemory}
+use Rattle.line_run.specs.declared.stop.Stop.TheVariants.{Ended, Differs, Refused, TooMany, OutOfMemory}
 use Rattle.trace_meaning.specs.Judgement.{most_events, verdict_by, verdict_at, number_behind}
 use Rattle.trace_meaning.specs.Output.{start_in, told_event, lines_for}
 use Rattle.trace_meaning.specs.Passing.{ArePassed}
-use Rattle.trace_play.specs.Playback.{Begun, Kept, nothing_kept, machine_or, events_taken, machine_before, StandsBehind, GoesOn, IsPlayed, IsLineWithin, IsSaid}
+use Rattle.trace_play.specs.Playback.{Begun, Kept, nothing_kept, machine_or, events_taken, machine_before, StandsBehind, GoesOn, IsLineWithin, IsSaid}
 use Rattle.trace_play.specs.Played.{with_head, stepped, with_event, line_means, played}
 use Rattle.trace_meaning.proofs.Grammar.{IsLineAt, said_at-is}
 use Rattle.trace_meaning.proofs.Heads.{AreHeads-more}
 use Rattle.trace_meaning.proofs.Readings.{stage_behind-push, heads_in-append, events_in-append, AreFront-passed, no_events_before_head}
-use Rattle.trace_meaning.proofs.Judging.{short_enough, ArePassed-none, ArePassed-more}
+use Rattle.trace_meaning.proofs.Judging.{ArePassed-none, ArePassed-more}
 use Rattle.trace_meaning.proofs.Outputs.{after_all-push, lines_for-head, lines_for-acted, told_behind, lines_for-event}
 
 -- before any line
@@ -42,11 +43,6 @@ StandsBehind-none = record { passed = ArePassed-none; stage = refl; heads = refl
 no_engine : (engine : Option Begun) → events_taken engine ≡ 0 → IfSome engine (λ (x : Begun). 0 < x.events) → engine ≡ None
 no_engine None none begun = refl
 no_engine (Some engine) none begun = absurd (omega arith)
-
--- what is kept of the head of lines that pass
-pub heads_behind : (playback : Kept) (readings : List Reading) → StandsBehind playback readings → AreHeads playback.stage playback.heads
-heads_behind playback readings stands =
-    rw (stands.stage, stands.heads) (AreFront-passed readings stands.passed).head
 
 -- the line that was read, at the stage behind lines that pass
 abbrev Said : List Reading → List ℕ → Line → Type 0
@@ -171,6 +167,7 @@ event_on before readings text event stands short said early =
 abbrev pub ComesTo : List (List ℕ) → List Reading → Reading → Meaning Kept → Type 0
 ComesTo last readings reading (goes_on next said) = GoesOn readings reading next said
 ComesTo last readings reading (ends lines) = (verdict_at readings reading ≡ Some ended) × (lines ≡ last)
+ComesTo last readings reading (differs lines) = ⊥
 ComesTo last readings reading (is_refused kind) = verdict_at readings reading ≡ Some (refused (number_behind readings) kind)
 ComesTo last readings reading is_too_many = verdict_at readings reading ≡ Some (too_long (number_behind readings))
 
@@ -218,34 +215,12 @@ line_comes last before readings text stands short = by_said (said_at before.stag
     by_said (Ok End) is = (decides_by before readings text (Ok End) ended stands short is refl, refl)
     by_said (Err refusal) is = decides_by before readings text (Err refusal) (refused (number_behind readings) (kind_of refusal)) stands short is refl
 
--- the line with a number that was interpreted, in terms of those before it
-pub line_played : (before next : Kept) (readings : List Reading) (number : ℕ) (text pending later : List ℕ) (result : Result (Unit {0}) Stop) → StandsBehind before readings →
-    number ≡ length readings + 1 → number ≤ most_lines → length text ≤ line_limit → IsInterpreted (played [] before text) next pending later result →
-    IsPlayed readings (reading_at (stage_behind readings first_stage) text) number next pending later result
-line_played before next readings number text pending later result stands at few long interpreted =
-    by_result result interpreted (λ m is. subst (λ (m : Meaning Kept). ComesTo [] readings reading m) is (line_comes [] before readings text stands short))
-  where
-    reading : Reading
-    reading = reading_at (stage_behind readings first_stage) text
-
-    short : IsShort readings text
-    short = short_enough readings text (omega (arith, at, few)) long
-
-    by_result : (result : Result (Unit {0}) Stop) → IsInterpreted (played [] before text) next pending later result →
-        ((m : Meaning Kept) → played [] before text ≡ m → ComesTo [] readings reading m) → IsPlayed readings reading number next pending later result
-    by_result (Ok done) is comes = (is.0, comes (goes_on next is.0) is.1, is.2)
-    by_result (Err Ended) is comes =
-        let decided = comes (ends is.0) is.1 in
-        (decided.0, is.2 ∙ ap (λ (ls : List (List ℕ)). pending ++ ended_lines ls) decided.1 ∙ append-nil pending)
-    by_result (Err (Refused kind)) is comes = (comes (is_refused kind) is.0 ∙ ap (λ (n : ℕ). Some (refused n kind)) (sym at), is.1)
-    by_result (Err TooMany) is comes = (comes is_too_many is.0 ∙ ap (λ (n : ℕ). Some (too_long n)) (sym at), is.1)
-    by_result (Err OutOfMemory) is comes = is
-
 -- ---- the lines that are written for the last one
 
 abbrev with_last : List (List ℕ) → Meaning Kept → Meaning Kept
 with_last last (goes_on next lines) = goes_on next lines
 with_last last (ends lines) = ends last
+with_last last (differs lines) = differs lines
 with_last last (is_refused kind) = is_refused kind
 with_last last is_too_many = is_too_many
 
@@ -268,10 +243,11 @@ played_last last before text = by_said (said_at before.stage text)
 abbrev lines_of : Meaning Kept → List (List ℕ)
 lines_of (goes_on next lines) = []
 lines_of (ends lines) = lines
+lines_of (differs lines) = []
 lines_of (is_refused kind) = []
 lines_of is_too_many = []
 
-last_none : (before : Kept) (text : List ℕ) (lines : List (List ℕ)) → played [] before text ≡ ends lines → lines ≡ []
+pub last_none : (before : Kept) (text : List ℕ) (lines : List (List ℕ)) → played [] before text ≡ ends lines → lines ≡ []
 last_none before text lines is =
     sym (ap lines_of is) ∙ ap lines_of (played_last [] before text) ∙ ap (λ (m : Meaning Kept). lines_of (with_last [] m)) is
 
@@ -279,6 +255,7 @@ last_none before text lines is =
 abbrev pub IsNotLast : Result (Unit {0}) Stop → Type 0
 IsNotLast (Ok done) = Unit {0}
 IsNotLast (Err Ended) = ⊥
+IsNotLast (Err Differs) = Unit {0}
 IsNotLast (Err (Refused kind)) = Unit {0}
 IsNotLast (Err TooMany) = Unit {0}
 IsNotLast (Err OutOfMemory) = Unit {0}
@@ -287,6 +264,7 @@ pub not_last : (last : List (List ℕ)) (before next : Kept) (text pending later
     IsInterpreted (played [] before text) next pending later result → IsInterpreted (played last before text) next pending later result
 not_last last before next text pending later (Ok done) other is = (is.0, played_last last before text ∙ ap (with_last last) is.1, is.2)
 not_last last before next text pending later (Err Ended) other is = absurd other
+not_last last before next text pending later (Err Differs) other is = (is.0, played_last last before text ∙ ap (with_last last) is.1, is.2)
 not_last last before next text pending later (Err (Refused kind)) other is = (played_last last before text ∙ ap (with_last last) is.0, is.1)
 not_last last before next text pending later (Err TooMany) other is = (played_last last before text ∙ ap (with_last last) is.0, is.1)
 not_last last before next text pending later (Err OutOfMemory) other is = is
@@ -301,6 +279,23 @@ last_said last before next text pending later said is says =
       says ∙ ap (λ (bytes : List ℕ). bytes ++ ended_lines last) silent,
     )
 
+-- ---- no line differs by itself
+
+pub never_differs : (last : List (List ℕ)) → NeverDiffers (played last)
+never_differs last before text lines is = by_said (said_at before.stage text) is
+  where
+    by_many : (event : Event) (b : Bool) →
+        cond b is_too_many (goes_on (with_event before event) (told_event (text, (step (machine_before before) event).actions))) ≡ differs lines → ⊥
+    by_many event true e = absurd cc
+    by_many event false e = absurd cc
+
+    by_said : (said : Result Line LineRefusal) → if_read said (line_means last before text) ≡ differs lines → ⊥
+    by_said (Ok (Head head)) e = absurd cc
+    by_said (Ok (Happen event)) e = by_many event (leb most_events (events_taken before.engine)) e
+    by_said (Ok Acted) e = absurd cc
+    by_said (Ok End) e = absurd cc
+    by_said (Err refusal) e = absurd cc
+
 -- ---- what is kept of the head
 
 AreHeads-event : (stage : Stage) (heads : List HeadLine) (event : Event) → AreHeads stage heads → AreHeads (stage_after stage (Happen event)) heads
@@ -314,25 +309,40 @@ AreHeads-event stage heads event h = record {
   in_range = h.in_range;
 }
 
+-- what holds behind a line that goes on, by what it may be
+goes_next : (P : Kept → Type 0) (last : List (List ℕ)) (before next : Kept) (text : List ℕ) (lines : List (List ℕ)) →
+    ((head : HeadLine) → said_at before.stage text ≡ Ok (Head head) → P (with_head before head)) → ((event : Event) → P (with_event before event)) → P before →
+    played last before text ≡ goes_on next lines → P next
+goes_next P last before next text lines at_head at_event same is = by_said (said_at before.stage text) refl is
+  where
+    kept_next : (other : Kept) (said : List (List ℕ)) → P other → goes_on other said ≡ goes_on next lines → P next
+    kept_next other said at e = let is : other ≡ next = cc in subst P is at
+
+    by_many : (event : Event) (b : Bool) →
+        cond b is_too_many (goes_on (with_event before event) (told_event (text, (step (machine_before before) event).actions))) ≡ goes_on next lines → P next
+    by_many event true e = absurd cc
+    by_many event false e = kept_next (with_event before event) _ (at_event event) e
+
+    by_said : (said : Result Line LineRefusal) → said_at before.stage text ≡ said → if_read said (line_means last before text) ≡ goes_on next lines → P next
+    by_said (Ok (Head head)) says e = kept_next (with_head before head) _ (at_head head says) e
+    by_said (Ok (Happen event)) says e = by_many event (leb most_events (events_taken before.engine)) e
+    by_said (Ok Acted) says e = kept_next before _ same e
+    by_said (Ok End) says e = absurd cc
+    by_said (Err refusal) says e = absurd cc
+
 -- it is kept behind a line that goes on
 pub heads_next : (last : List (List ℕ)) (before next : Kept) (text : List ℕ) (lines : List (List ℕ)) → AreHeads before.stage before.heads → played last before text ≡ goes_on next lines →
     AreHeads next.stage next.heads
-heads_next last before next text lines h is = by_said (said_at before.stage text) refl is
-  where
-    kept_next : (other : Kept) (said : List (List ℕ)) → AreHeads other.stage other.heads → goes_on other said ≡ goes_on next lines → AreHeads next.stage next.heads
-    kept_next other said at e = let same : other ≡ next = cc in subst (λ (k : Kept). AreHeads k.stage k.heads) same at
+heads_next last before next text lines h =
+    goes_next (λ k. AreHeads k.stage k.heads) last before next text lines
+    (λ head says. AreHeads-more before.stage before.heads head (said_at-is before.stage text (Head head) says) h) (λ event. AreHeads-event before.stage before.heads event h) h
 
-    by_many : (event : Event) (b : Bool) →
-        cond b is_too_many (goes_on (with_event before event) (told_event (text, (step (machine_before before) event).actions))) ≡ goes_on next lines → AreHeads next.stage next.heads
-    by_many event true e = absurd cc
-    by_many event false e = kept_next (with_event before event) _ (AreHeads-event before.stage before.heads event h) e
-
-    by_said : (said : Result Line LineRefusal) → said_at before.stage text ≡ said → if_read said (line_means last before text) ≡ goes_on next lines → AreHeads next.stage next.heads
-    by_said (Ok (Head head)) says e = kept_next (with_head before head) _ (AreHeads-more before.stage before.heads head (said_at-is before.stage text (Head head) says) h) e
-    by_said (Ok (Happen event)) says e = by_many event (leb most_events (events_taken before.engine)) e
-    by_said (Ok Acted) says e = kept_next before _ h e
-    by_said (Ok End) says e = absurd cc
-    by_said (Err refusal) says e = absurd cc
+-- and no more than one line of the head, or one event, is kept besides
+pub counted_next : (last : List (List ℕ)) (before next : Kept) (text : List ℕ) (lines : List (List ℕ)) → played last before text ≡ goes_on next lines →
+    length next.heads + events_taken next.engine ≤ length before.heads + events_taken before.engine + 1
+counted_next last before next text lines =
+    goes_next (λ k. length k.heads + events_taken k.engine ≤ length before.heads + events_taken before.engine + 1) last before next text lines
+    (λ head says. omega (arith, length_push before.heads head)) (λ event. omega arith) (omega arith)
 
 -- ---- what the functions answer
 

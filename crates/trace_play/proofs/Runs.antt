@@ -5,11 +5,11 @@ use Rattle.std.proofs.lemmas.List.{append_assoc, length_push}
 use Rattle.io_edge.specs.Lines.{whole_lines, unfinished_line, ended_lines}
 use Rattle.io_edge.specs.Told.{Takes, TakesProperPrefix}
 use Rattle.io_edge.proofs.ToldLemmas.{Gives-nothing, Takes-nothing}
-use Rattle.line_run.specs.Judgement.{Verdict, ended, refused, too_long, Judgement as LineJudgement, silently, behind, is_too_long, judged_by, verdict_of_rest, judged_from as lines_from, judged as lines_judged, output_of as lines_output, verdict_of as lines_verdict}
-use Rattle.line_run.specs.Meaning.{Meaning, goes_on, ends, is_refused, is_too_many}
+use Rattle.line_run.specs.Judgement.{Verdict, ended, differed, refused, too_long, Judgement as LineJudgement, silently, behind, is_too_long, judged_by, verdict_of_rest, judged_from as lines_from, judged as lines_judged, output_of as lines_output, verdict_of as lines_verdict}
+use Rattle.line_run.specs.Meaning.{Meaning, goes_on, ends, differs, is_refused, is_too_many}
 use Rattle.line_run.specs.Runs as run
 use Rattle.line_run.specs.declared.outcome.LineOutcome.{LineOutcome}
-use Rattle.line_run.specs.declared.outcome.LineOutcome.TheVariants.{Done, Refused, ReadFault, WriteFault, OutOfMemory, TooLong}
+use Rattle.line_run.specs.declared.outcome.LineOutcome.TheVariants.{Done, Differ, Refused, ReadFault, WriteFault, OutOfMemory, TooLong}
 use Rattle.trace_text.specs.Stages.{first_stage}
 use Rattle.trace_text.specs.declared.stage.Stage.{Stage}
 use Rattle.trace_meaning.specs.FaultCounts as trace
@@ -23,7 +23,9 @@ use Rattle.trace_meaning.proofs.Readings.{stage_behind-push}
 use Rattle.trace_meaning.proofs.Settled.{judged_settled}
 use Rattle.trace_play.specs.Playback.{Kept, nothing_kept, StandsBehind, GoesOn}
 use Rattle.trace_play.specs.Played.{played}
-use Rattle.trace_play.proofs.Playing.{StandsBehind-none, ComesTo, line_comes}
+use Rattle.trace_play.proofs.Playing.{StandsBehind-none, ComesTo, line_comes, never_differs}
+use Rattle.line_run.proofs.Differing.{none_differs}
+use Rattle.line_run.proofs.Inputs.{lines_prefix}
 
 abbrev last : List (List ℕ)
 last = codes "end" ∷ []
@@ -54,6 +56,7 @@ line_judged readings before text later j stands short on = by_meaning (played la
     by_meaning (ends lines) is =
         ap (λ (ls : List (List ℕ)). record { lines = lines_for readings ++ ls; verdict = ended }) is.1
         ∙ ap (λ (v : Option Verdict). whole_of (judged_at v readings j)) (sym is.0)
+    by_meaning (differs lines) is = absurd is
     by_meaning (is_refused kind) is = ap (λ (v : Option Verdict). whole_of (judged_at v readings j)) (sym is)
     by_meaning is_too_many is = ap (λ (v : Option Verdict). whole_of (judged_at v readings j)) (sym is)
 
@@ -120,6 +123,7 @@ settled seen left outcome decisive more is =
 
 told_run : (verdict : Verdict) → outcome_run (run.outcome_of verdict) ≡ outcome_of verdict
 told_run ended = refl
+told_run (differed line) = refl
 told_run (refused line kind) = refl
 told_run (too_long line) = refl
 
@@ -139,6 +143,7 @@ replays_run l0 l1 t0 t1 Done r = record {
   gives = r.gives;
   is_outcome = (decisive_run r.seen l1 Done r.is_outcome.0, takes_run t0 t1 r.seen r.is_outcome.1);
 }
+replays_run l0 l1 t0 t1 (Differ line) r = absurd (none_differs (played last) nothing_kept l0 l1 t0 t1 line (never_differs last) r)
 replays_run l0 l1 t0 t1 (Refused line kind) r = record {
   seen = r.seen;
   gives = r.gives;
@@ -162,7 +167,7 @@ replays_run l0 l1 t0 t1 WriteFault r = record {
 replays_run l0 l1 t0 t1 OutOfMemory r = record {
   seen = r.seen;
   gives = r.gives;
-  is_outcome = subst (λ (bytes : List ℕ). run.TakesPrefix t0 t1 bytes) (output_played r.seen) r.is_outcome;
+  is_outcome = subst (λ (bytes : List ℕ). run.TakesPrefix t0 t1 bytes) (output_played r.seen) (lines_prefix (played last) nothing_kept r.seen t0 t1 r.is_outcome);
 }
 
 -- memory is wanting before anything was read
@@ -177,6 +182,7 @@ no_memory left taken = record {
 
 pub reads_run : (before now : ℕ) (outcome : LineOutcome) → run.HasReadCount before now outcome → trace.HasReadCount before now (outcome_run outcome)
 reads_run before now Done count = count
+reads_run before now (Differ line) count = count
 reads_run before now (Refused line kind) count = count
 reads_run before now ReadFault count = count
 reads_run before now WriteFault count = count
@@ -185,6 +191,7 @@ reads_run before now (TooLong line) count = count
 
 pub writes_run : (before now : ℕ) (outcome : LineOutcome) → run.HasWriteCount before now outcome → trace.HasWriteCount before now (outcome_run outcome)
 writes_run before now Done count = count
+writes_run before now (Differ line) count = count
 writes_run before now (Refused line kind) count = count
 writes_run before now ReadFault count = count
 writes_run before now WriteFault count = count

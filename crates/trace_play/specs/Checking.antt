@@ -1,115 +1,56 @@
--- A check that is on its way, and how it goes on.
-use Rattle.std.specs.Prelude.{◌≡◌, ℕ, ◌+◌, List, ◌++◌, length, drop, All, codes, ◌⊎◌, Option, Some, None, Result, Ok, Err}
-use Rattle.io_edge.specs.Lines.{HasNoLineFeed, ended_lines}
+-- What a line of a trace means that is compared with what is written for it.
+use Rattle.std.specs.Prelude.{ℕ, ◌+◌, ◌-◌, nat_le, List, [], ◌++◌, length, drop, codes, bytes_eq, if◌then◌else◌, Option, Some, None}
+use Rattle.io_edge.specs.Lines.{ended_lines}
 use Rattle.io_edge.specs.Pending.{front_line}
-use Rattle.io_edge.specs.Told.{Gives}
-use Rattle.trace_meaning.specs.Reading.{Reading, events_in}
-use Rattle.line_run.specs.Judgement.{ended, refused, too_long}
-use Rattle.trace_meaning.specs.Judgement.{verdict_at}
-use Rattle.trace_meaning.specs.Output.{lines_for}
-use Rattle.trace_meaning.specs.Passing.{texts_of}
-use Rattle.trace_play.specs.Playback.{Kept, StandsBehind, GoesOn}
-use Rattle.trace_compare.specs.Compare.{IsAction, Comparison, agree, differ, refused_at, too_long_at, actions_in, comparison_of}
-use Rattle.trace_play.specs.Checks.{AreSettled, AgreeSoFar}
-use Rattle.trace_play.specs.declared.finding.Finding.{Finding}
-use Rattle.trace_play.specs.declared.finding.Finding.TheVariants.{Agrees, Differs}
-use Rattle.trace_meaning.specs.declared.outcome.Outcome.{Outcome}
-use Rattle.trace_meaning.specs.declared.outcome.Outcome.TheVariants.{Done, Differ, Refused, ReadFault, WriteFault, OutOfMemory, WorldFault, TooLong}
+use Rattle.line_run.specs.Judgement.{most_lines}
+use Rattle.line_run.specs.Meaning.{Meaning, goes_on, ends, differs, is_refused, is_too_many}
+use Rattle.trace_compare.specs.Compare.{agree, differ, report_lines}
+use Rattle.trace_play.specs.Playback.{Kept, nothing_kept, events_taken}
+use Rattle.trace_play.specs.Played.{played}
 
--- Before the line with a number: the lines before it pass, and each is the line of the output at its place. What the
--- output has besides is due: actions of the last event. Behind the lines some bytes that were read are kept.
-pub record AgreesSoFar (number : ℕ) (playback : Kept) (kept due : List ℕ) (left_before left_now : Option (List ℕ)) : Type 0 where
-  pub readings : List Reading
-  pub stands : StandsBehind playback readings
-  pub number_is : number ≡ length readings + 1
-  pub whole : All HasNoLineFeed (texts_of readings)
-  pub gives : Gives left_before left_now (ended_lines (texts_of readings) ++ kept)
-  pub lines_due : List (List ℕ)
-  pub agreed : lines_for readings ≡ texts_of readings ++ lines_due
-  pub actions : All IsAction lines_due
-  pub due_is : due ≡ ended_lines lines_due
+-- what is kept of lines that agree with their output: their playback, how many they are, and what else of the output is due
+pub record Agreed : Type 0 where
+  pub playback : Kept
+  pub lines : ℕ
+  pub due : List ℕ
 
--- the comparison that was found
-abbrev pub comparison_told : Finding → Comparison
-comparison_told (Agrees events actions) = agree events actions
-comparison_told (Differs line found want) = differ (record { line = line; found = found; want = want })
+abbrev pub agreed : Kept → ℕ → List ℕ → Agreed
+agreed playback lines due = record { playback = playback; lines = lines; due = due }
 
--- what the bytes come to, and that what stands behind them at the source changes nothing
-abbrev pub DecidesFor : List ℕ → Option (List ℕ) → Comparison → Type 0
-DecidesFor seen left comparison = (comparison_of seen ≡ comparison) × AreSettled seen left
+-- no line was read yet
+abbrev pub nothing_agreed : Agreed
+nothing_agreed = agreed nothing_kept 0 []
 
-abbrev pub IsFound : Result Finding Outcome → List ℕ → Option (List ℕ) → Type 0
-IsFound (Ok finding) seen left = DecidesFor seen left (comparison_told finding)
-IsFound (Err (Refused line kind)) seen left = DecidesFor seen left (refused_at line kind)
-IsFound (Err (TooLong line)) seen left = DecidesFor seen left (too_long_at line)
-IsFound (Err ReadFault) seen left = AgreeSoFar seen
-IsFound (Err OutOfMemory) seen left = Unit {0}
-IsFound (Err Done) seen left = ⊥
-IsFound (Err (Differ line)) seen left = ⊥
-IsFound (Err WriteFault) seen left = ⊥
-IsFound (Err WorldFault) seen left = ⊥
+-- the line behind so many that agree is another one than is due, if any is
+abbrev pub is_another : ℕ → List ℕ → Option (List ℕ) → Meaning Agreed
+is_another lines found want = differs (report_lines (differ (record { line = lines + 1; found = found; want = want })))
 
--- what was found in the bytes that were read
-pub record Finds (left_before left_now : Option (List ℕ)) (result : Result Finding Outcome) : Type 0 where
-  pub seen : List ℕ
-  pub gives : Gives left_before left_now seen
-  pub is_found : IsFound result seen left_now
+-- A line passes, and this is due then. It is to be the first line of that.
+abbrev pub passing : ℕ → Kept → List ℕ → List ℕ → Option (List ℕ) → Meaning Agreed
+passing lines next text due None = is_another lines text None
+passing lines next text due (Some first) =
+    if bytes_eq first text then goes_on (agreed next (lines + 1) (drop (length text + 1) due)) []
+    else is_another lines text (Some first)
 
--- it goes on to the line after, or something was found
-abbrev pub IsCheckTurn : ℕ → Kept → List ℕ → List ℕ → Option (List ℕ) → Option (List ℕ) → Result (Option Finding) Outcome → Type 0
-IsCheckTurn number next kept due left_before left_now (Ok None) = AgreesSoFar (number + 1) next kept due left_before left_now
-IsCheckTurn number next kept due left_before left_now (Ok (Some finding)) = Finds left_before left_now (Ok finding)
-IsCheckTurn number next kept due left_before left_now (Err outcome) = Finds left_before left_now (Err outcome)
+-- At `end`, behind so many lines, events and actions, nothing is to be due.
+abbrev pub ending : ℕ → ℕ → ℕ → Option (List ℕ) → Meaning Agreed
+ending lines events actions None = ends (report_lines (agree events actions))
+ending lines events actions (Some first) = is_another lines (codes "end") (Some first)
 
--- The line passes, and what it gives is due behind what was, but the first line due is another one, or none.
-pub record DiffersAt (readings : List Reading) (reading : Reading) (next : Kept) (before found : List ℕ) (want : Option (List ℕ)) : Type 0 where
-  pub said : List (List ℕ)
-  pub goes : GoesOn readings reading next said
-  pub found_is : found ≡ reading.text
-  pub want_is : want ≡ front_line (before ++ ended_lines said)
-  pub another : ¬ (front_line (before ++ ended_lines said) ≡ Some reading.text)
+-- how many of the lines that agree are neither of the head nor events
+abbrev pub actions_before : Agreed → ℕ
+actions_before before = before.lines - length before.playback.heads - events_taken before.playback.engine
 
--- `end` is there while an action is due.
-pub record DiffersAtEnd (readings : List Reading) (reading : Reading) (before found : List ℕ) (want : Option (List ℕ)) : Type 0 where
-  pub ends : verdict_at readings reading ≡ Some ended
-  pub found_is : found ≡ codes "end"
-  pub line_due : List ℕ
-  pub want_is : want ≡ Some line_due
-  pub first_due : front_line before ≡ Some line_due
+-- A line, by what it means where it is played. No line differs by itself; that case is none of it.
+abbrev pub compared : Agreed → List ℕ → Meaning Kept → Meaning Agreed
+compared before text (goes_on next said) =
+    let due = before.due ++ ended_lines said in passing before.lines next text due (front_line due)
+compared before text (ends said) = ending before.lines (events_taken before.playback.engine) (actions_before before) (front_line before.due)
+compared before text (differs said) = differs said
+compared before text (is_refused kind) = is_refused kind
+compared before text is_too_many = is_too_many
 
-abbrev pub IsFoundAt : List Reading → Reading → Kept → ℕ → List ℕ → Finding → Type 0
-IsFoundAt readings reading next number before (Agrees events actions) =
-    (verdict_at readings reading ≡ Some ended) × (front_line before ≡ None) × (events ≡ length (events_in readings)) × (actions ≡ actions_in readings)
-IsFoundAt readings reading next number before (Differs line found want) =
-    (line ≡ number) × (DiffersAt readings reading next before found want ⊎ DiffersAtEnd readings reading before found want)
-
--- The line is the first that is due, and no longer then; or it is another one, or none is.
-abbrev pub IsNext : {E : Type 0} → ℕ → List ℕ → List ℕ → List ℕ → Result (Option Finding) E → Type 0
-IsNext number text before after (Ok None) = (front_line before ≡ Some text) × (after ≡ drop (length text + 1) before)
-IsNext number text before after (Ok (Some (Agrees events actions))) = ⊥
-IsNext number text before after (Ok (Some (Differs line found want))) =
-    (line ≡ number) × (found ≡ text) × (want ≡ front_line before) × ¬ (front_line before ≡ Some text)
-IsNext number text before after (Err wanting) = Unit {0}
-
--- what is found at `end`: the agreement where nothing is due
-abbrev pub end_found : ℕ → Finding → Option (List ℕ) → Finding
-end_found number agreement None = agreement
-end_found number agreement (Some line) = Differs number (codes "end") (Some line)
-
-abbrev pub IsFoundAtEnd : ℕ → Finding → List ℕ → Finding → Type 0
-IsFoundAtEnd number agreement before finding = finding ≡ end_found number agreement (front_line before)
-
--- a line is played and compared, with what is due before and after it
-abbrev pub IsCompared : List Reading → Reading → Kept → ℕ → List ℕ → List ℕ → Result (Option Finding) Outcome → Type 0
-IsCompared readings reading next number before after (Ok None) =
-    (said : List (List ℕ)) × GoesOn readings reading next said × (front_line (before ++ ended_lines said) ≡ Some reading.text)
-    × (after ≡ drop (length reading.text + 1) (before ++ ended_lines said))
-IsCompared readings reading next number before after (Ok (Some finding)) = IsFoundAt readings reading next number before finding
-IsCompared readings reading next number before after (Err (Refused line kind)) = verdict_at readings reading ≡ Some (refused line kind)
-IsCompared readings reading next number before after (Err (TooLong line)) = verdict_at readings reading ≡ Some (too_long line)
-IsCompared readings reading next number before after (Err OutOfMemory) = Unit {0}
-IsCompared readings reading next number before after (Err Done) = ⊥
-IsCompared readings reading next number before after (Err (Differ line)) = ⊥
-IsCompared readings reading next number before after (Err ReadFault) = ⊥
-IsCompared readings reading next number before after (Err WriteFault) = ⊥
-IsCompared readings reading next number before after (Err WorldFault) = ⊥
+-- behind as many lines as an input may have no run comes to one more
+abbrev pub checked : Agreed → List ℕ → Meaning Agreed
+checked before text =
+    if nat_le most_lines before.lines then is_too_many else compared before text (played [] before.playback text)

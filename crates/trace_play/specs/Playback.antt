@@ -1,6 +1,5 @@
 -- What is kept of the lines of a trace that were read, and what one line more comes to.
 use Rattle.std.specs.Prelude.{◌≡◌, ℕ, ◌<◌, List, [], ◌∷◌, ◌++◌, length, Option, Some, None, IfSome, Result, Ok, Err}
-use Rattle.io_edge.specs.Lines.{ended_lines}
 use Rattle.machine.specs.Machine.{Machine, start_of}
 use Rattle.machine.specs.Run.{after_all}
 use Rattle.net_base.specs.Limits.{IsWithinLimits}
@@ -13,12 +12,9 @@ use Rattle.trace_text.specs.declared.line.LineRefusal.TheVariants.{BadWord, BadN
 use Rattle.trace_text.specs.declared.stage.Stage.{Stage}
 use Rattle.trace_meaning.specs.Reading.{Reading, said_at, stage_behind, heads_in, events_in}
 use Rattle.trace_meaning.specs.Settings.{settings_in}
-use Rattle.line_run.specs.Judgement.{ended, refused, too_long}
 use Rattle.trace_meaning.specs.Judgement.{verdict_at}
 use Rattle.trace_meaning.specs.Output.{start_in, lines_for}
 use Rattle.trace_meaning.specs.Passing.{ArePassed}
-use Rattle.line_run.specs.declared.stop.Stop.{Stop}
-use Rattle.line_run.specs.declared.stop.Stop.TheVariants.{Ended, Refused, TooMany, OutOfMemory}
 
 -- what contracts see of what steps
 pub record Begun : Type 0 where
@@ -69,15 +65,6 @@ pub record GoesOn (readings : List Reading) (reading : Reading) (next : Kept) (s
   pub passes : verdict_at readings reading ≡ None
   pub stands : StandsBehind next (readings ++ reading ∷ [])
   pub lines : lines_for (readings ++ reading ∷ []) ≡ lines_for readings ++ said
-
--- What the line with a number comes to, with what is pending before and after it: it passes, or it decides. Where it decides
--- nothing is said.
-abbrev pub IsPlayed : List Reading → Reading → ℕ → Kept → List ℕ → List ℕ → Result (Unit {0}) Stop → Type 0
-IsPlayed readings reading number next before after (Ok done) = (said : List (List ℕ)) × GoesOn readings reading next said × (after ≡ before ++ ended_lines said)
-IsPlayed readings reading number next before after (Err Ended) = (verdict_at readings reading ≡ Some ended) × (after ≡ before)
-IsPlayed readings reading number next before after (Err (Refused kind)) = (verdict_at readings reading ≡ Some (refused number kind)) × (after ≡ before)
-IsPlayed readings reading number next before after (Err TooMany) = (verdict_at readings reading ≡ Some (too_long number)) × (after ≡ before)
-IsPlayed readings reading number next before after (Err OutOfMemory) = after ≡ before
 
 -- an event line says an event that is within the limits
 abbrev pub IsLineWithin : Line → Type 0

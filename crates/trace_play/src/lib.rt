@@ -3,10 +3,11 @@
 #![tactic(auto)]
 
 mod beginning;
+mod checker;
 mod checking;
-mod finding;
 mod playback;
 mod replaying;
+mod report;
 
 pub use checking::check_by;
 pub use replaying::replay_by;

@@ -1,4 +1,3 @@
-use Rattle.std.proofs.Common.{None, Some}
 use Rattle.command_run.proofs.CommandLemmas.{run-none, run-usage, run-replay, run-check, run-pair, run-clients, run-drill}
 use Rattle.command_run.proofs.running.run.Goals as goal
 
