@@ -92,7 +92,7 @@ reuses addr m h e live free =
 -- ---- a peer that an order finds in use
 
 -- the live connection that is in use is the one that an order finds
-used-here : (addr : Addr) (m : Machine) (e : Entry) → IsOrderly m → live_entry_at addr m ≡ Some e → e.facts.local ≡ true → find (is_used_at addr) m.connections ≡ Some e
+pub used-here : (addr : Addr) (m : Machine) (e : Entry) → IsOrderly m → live_entry_at addr m ≡ Some e → e.facts.local ≡ true → find (is_used_at addr) m.connections ≡ Some e
 used-here addr m e h live local =
     let at = find_some (λ x. is_live_at addr x.facts) m.connections e live in
     find_only (is_used_at addr) e m.connections at.place (used_one addr m h) at.stands (and_from (is_live_at addr e.facts) e.facts.local at.passes local)

@@ -78,5 +78,6 @@ mod WaitsOfParts
 mod Pruning
 mod Walk
 mod Cases
+mod Each
 pub mod Words
 mod Items

@@ -1,9 +1,9 @@
 -- How many ids the rules give out: distinct addresses of the book are no more than its peers, so each peer is dialed once at most.
 use Rattle.std.proofs.Common.{ℕ, ◌+◌, ◌≤◌, ◌≡◌, Bool, true, false, cond, not, ◌&&◌, List, [], ◌∷◌, length, count_by, Some, refl, ap, ◌∙◌, arith, ◌-◌, ◌||◌, ◌++◌, map, flat_map, sym, subst}
-use Rattle.laws.proofs.Words.{sum_by-cons, sum_by-filter_both, cond_both, and_parts, and_from, map-append}
-use Rattle.laws.specs.Words.{AllByRecursion, option_map, has_address, without_peer, same_address, Addr, Group, Peer, is_of, is_listed, members_of, big_orders, is_eligible, may_be_deactivated, active_target, orders_for, is_not_local, is_member_and, members_count, g4_orders, g5_orders, g9_orders, B5, Order, Ask, Forget, Promote, Release, Activate, Deactivate, AskRoots, active_of, is_established, may_ask, asked, Machine, Effect, nothing_more, tells, then_do, for_each, link_of, view_of, carries_out, ordinary_rules, big_rules, rules, govern}
+use Rattle.laws.proofs.Words.{sum_by-cons, sum_by-filter_both, cond_both, and_parts, and_from}
+use Rattle.laws.specs.Words.{AllByRecursion, option_map, has_address, without_peer, same_address, Addr, Group, Peer, is_of, is_listed, members_of, big_orders, is_eligible, orders_for, is_member_and, members_count, g4_orders, g5_orders, g9_orders, B5, Order, Ask, Forget, Promote, Release, Activate, Deactivate, AskRoots, is_established, may_ask, asked, Machine, Effect, nothing_more, tells, then_do, for_each, link_of, view_of, carries_out, ordinary_rules, big_rules, rules, govern}
 use Rattle.laws.specs.Steady.{ArePeersApart, AreApart, IsFormed, GivesFew}
-use Rattle.laws.proofs.Chosen.{chosen, chosen-all, chosen-apart, PicksMembers, picks-listed, groups_picks-apart, groups_picks-all, map-groups, group_picks}
+use Rattle.laws.proofs.Chosen.{chosen, chosen-all, chosen-apart, PicksMembers, picks-listed, groups_picks-apart, groups_picks-all, map-groups, picks_in, group_picks, hot_free, hot_members, g9-same}
 use Rattle.laws.proofs.Lists.{all-both, all-weaker}
 use Rattle.laws.proofs.Addresses.{same_address-true}
 use Rattle.laws.proofs.Spending.{class_at}
@@ -108,7 +108,7 @@ g4-rule start word peers members given m h =
     let groups : AreApart (members_of m.groups) = subst (λ gs. AreApart (members_of gs)) (sym h.groups) members in
     let eligible : Peer → Bool = is_eligible m.now (map link_of m.connections) in
     let number : Group → ℕ = λ g. g.warm - members_count g (λ p. is_established p.temp || is_pending_link (map link_of m.connections) p.addr) m.peers in
-    let pick : Group → List Addr = λ g. chosen false word (number g) (is_member_and g eligible) m.peers in
+    let pick : Group → List Addr = picks_in word number eligible m.peers in
     let picks : PicksMembers pick = group_picks word number eligible m.peers here in
     subst (λ orders. Gives (given + number_of kind start.peers) start (for_each carries_out orders m).machine) (sym (map-groups Promote pick m.groups))
     (kind-rule start kind (flat_map pick m.groups) given m peers h (groups_picks-apart pick m.groups picks groups)
@@ -144,16 +144,12 @@ b5-rule start word peers given m h = class-rule start is_big_one true word _ _ g
 groups-still : (order : Addr → Order) → ((addr : Addr) → ids_of (order addr) ≡ 0) → (word : ℕ) (number : Group → ℕ) (test : Peer → Bool) (m : Machine) →
     Gives 0 m (for_each carries_out (flat_map (λ g. orders_for false word order (number g) (is_member_and g test) m.peers) m.groups) m).machine
 groups-still order none word number test m =
-    let pick : Group → List Addr = λ g. chosen false word (number g) (is_member_and g test) m.peers in
+    let pick : Group → List Addr = picks_in word number test m.peers in
     subst (λ orders. Gives 0 m (for_each carries_out orders m).machine) (sym (map-groups order pick m.groups)) (still-gives order none (flat_map pick m.groups) m)
 
 g9-gives : (word : ℕ) (m : Machine) → Gives 0 m (rules (λ o. g9_orders (view_of word o) o.peers o.groups) m).machine
-g9-gives word m =
-    let beyond : List Addr = chosen false word (active_of false m.peers - active_target false (view_of word m)) (λ p. is_not_local m.groups p.addr && may_be_deactivated p) m.peers in
-    let members : Group → List Addr = λ g. chosen false word (members_count g may_be_deactivated m.peers - g.hot) (is_member_and g may_be_deactivated) m.peers in
-    let same : map Deactivate (beyond ++ flat_map members m.groups) ≡ g9_orders (view_of word m) m.peers m.groups = map-append Deactivate beyond (flat_map members m.groups)
-    ∙ ap (λ orders. map Deactivate beyond ++ orders) (sym (map-groups Deactivate members m.groups)) in
-    subst (λ orders. Gives 0 m (for_each carries_out orders m).machine) same (still-gives Deactivate (λ addr. refl) (beyond ++ flat_map members m.groups) m)
+g9-gives word m = subst (λ orders. Gives 0 m (for_each carries_out orders m).machine) (sym (g9-same word m))
+    (still-gives Deactivate (λ addr. refl) (hot_free word m ++ flat_map (hot_members word m) m.groups) m)
 
 -- ---- all rules
 

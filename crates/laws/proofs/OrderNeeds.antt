@@ -11,8 +11,7 @@ use Rattle.laws.proofs.Cases.{by_option}
 use Rattle.laws.proofs.Chain.{rules-chain}
 use Rattle.laws.proofs.Governing.{Governs, governs, asks_roots-keeps}
 use Rattle.laws.proofs.NumbersOfRules.{rules-give}
-use Rattle.laws.proofs.Ordering.{EachDue}
-use Rattle.laws.proofs.Orders.{EachAccounted}
+use Rattle.laws.proofs.Ordering.{AreRight}
 use Rattle.laws.proofs.Promotions.{free-may}
 use Rattle.laws.proofs.WaitsOfParts.{order-waits}
 use Rattle.laws.proofs.RootsAsked.{roots-set}
@@ -34,7 +33,7 @@ due-may other m h few due = tt
 
 -- ---- one order after the other
 
-rises : (orders : List Order) (m : Machine) → EachAccounted orders m → m.next_id ≤ (for_each carries_out orders m).machine.next_id
+rises : (orders : List Order) (m : Machine) → AreRight orders m → m.next_id ≤ (for_each carries_out orders m).machine.next_id
 unfolding for_each
 rises [] m h = omega arith
 rises (o ∷ orders) m h =
@@ -42,14 +41,14 @@ rises (o ∷ orders) m h =
     let rest = rises orders (carries_out o m).machine h.1 in
     omega (arith, first, rest)
 
-all-may : (orders : List Order) (m : Machine) → EachAccounted orders m → EachDue orders m → (for_each carries_out orders m).machine.next_id ≤ 2 ^ 48 → MayAll orders m
+all-may : (orders : List Order) (m : Machine) → AreRight orders m → (for_each carries_out orders m).machine.next_id ≤ 2 ^ 48 → MayAll orders m
 unfolding MayAll for_each
-all-may [] m h due few = tt
-all-may (o ∷ orders) m h due few =
+all-may [] m h few = tt
+all-may (o ∷ orders) m h few =
     let first = (order-waits o m h.0.ordered).next in
     let rest = rises orders (carries_out o m).machine h.1 in (
-      due-may o m h.0.ordered (omega (arith, first, rest, few)) due.0,
-      all-may orders (carries_out o m).machine h.1 due.1 few,
+      due-may o m h.0.ordered (omega (arith, first, rest, few)) h.0.due,
+      all-may orders (carries_out o m).machine h.1 few,
     )
 
 both-may : (xs ys : List Order) (m : Machine) → MayAll (xs ++ ys) m → MayAll xs m × MayAll ys (for_each carries_out xs m).machine
@@ -66,9 +65,9 @@ follow (r ∷ each) m h =
       follow each (rules r m).machine parts.1,
     )
 
-all-follow : (each : List (Machine → List Order)) (m : Machine) → EachAccounted (orders_of each m) m → EachDue (orders_of each m) m →
+all-follow : (each : List (Machine → List Order)) (m : Machine) → AreRight (orders_of each m) m →
     (for_each rules each m).machine.next_id ≤ 2 ^ 48 → MayFollow each m
-all-follow each m h due few = follow each m (all-may (orders_of each m) m h due (subst (λ effect. effect.machine.next_id ≤ 2 ^ 48) (rules-chain each m) few))
+all-follow each m h few = follow each m (all-may (orders_of each m) m h (subst (λ effect. effect.machine.next_id ≤ 2 ^ 48) (rules-chain each m) few))
 
 -- ---- the governor
 
@@ -85,6 +84,6 @@ govern-may word m h within room =
     let later : o.next_id ≤ (for_each rules (big_rules word) o).machine.next_id =
     subst (λ effect. o.next_id ≤ effect.machine.next_id) (sym (rules-chain (big_rules word) o)) (rises (orders_of (big_rules word) o) o g.big) in
     record {
-      ordinary = all-follow (ordinary_rules word) n g.ordinary g.ordinary_due (omega (arith, later, most));
-      big = all-follow (big_rules word) o g.big g.big_due most;
+      ordinary = all-follow (ordinary_rules word) n g.ordinary (omega (arith, later, most));
+      big = all-follow (big_rules word) o g.big most;
     }

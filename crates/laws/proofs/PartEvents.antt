@@ -19,8 +19,7 @@ use Rattle.laws.proofs.Governing.{Governs, governs}
 use Rattle.laws.proofs.Keeping.{Keeps}
 use Rattle.laws.proofs.Lawful.{quiet-obeys, elsewhere-quiet, changes-quiet, comes-providing, stands-found, turns-obeys}
 use Rattle.laws.proofs.Lists.{StandsAt, find_some, all-weaker}
-use Rattle.laws.proofs.Ordering.{EachDue}
-use Rattle.laws.proofs.Orders.{EachAccounted}
+use Rattle.laws.proofs.Ordering.{AreRight}
 use Rattle.laws.proofs.PartMoves.{accounted-part, providing-part, AreLawful, no_part, first_part, one_part, more_parts, Tells, accounted_by}
 use Rattle.laws.proofs.Streams.{handles-trimmed, faulted-trimmed, open-live}
 use Rattle.laws.proofs.Telling.{are_mute}
@@ -62,11 +61,11 @@ clock-parts t m h =
 
 -- ---- the governor
 
-orders-parts : (event : Event) (orders : List Order) (m : Machine) → EachAccounted orders m → EachDue orders m → AreLawful event (map carries orders) m
-orders-parts event [] m h due = no_part event m
-orders-parts event (o ∷ orders) m h due =
-    first_part event (carries o) (map carries orders) m tt due.0 (carried-out o m h.0.ordered.orderly) h.0.ordered
-    (accounted-part event m (carries_out o m) h.0.accounts) (orders-parts event orders (carries_out o m).machine h.1 due.1)
+orders-parts : (event : Event) (orders : List Order) (m : Machine) → AreRight orders m → AreLawful event (map carries orders) m
+orders-parts event [] m h = no_part event m
+orders-parts event (o ∷ orders) m h =
+    first_part event (carries o) (map carries orders) m tt h.0.due (carried-out o m h.0.ordered.orderly) h.0.ordered
+    (accounted-part event m (carries_out o m) h.0.accounts) (orders-parts event orders (carries_out o m).machine h.1)
 
 govern-parts : (word : ℕ) (m : Machine) → IsOrdered m → counted_in m ≤ m.settings.hard → AreLawful (Govern word) (acts m (Govern word)) m
 govern-parts word m h within =
@@ -76,9 +75,9 @@ govern-parts word m h within =
     let ordinary : List Act = map carries (orders_of (ordinary_rules word) n) in
     let big : List Act = map carries (orders_of (big_rules word) o) in
     first_part (Govern word) asks_for_roots (ordinary ++ big) m tt tt tt tt (accounted-part (Govern word) m (asks_roots m) g.asked)
-    (more_parts (Govern word) ordinary big n (orders-parts (Govern word) (orders_of (ordinary_rules word) n) n g.ordinary g.ordinary_due)
+    (more_parts (Govern word) ordinary big n (orders-parts (Govern word) (orders_of (ordinary_rules word) n) n g.ordinary)
     (subst (λ effect. AreLawful (Govern word) big effect.machine) (orders-chain (ordinary_rules word) n)
-    (orders-parts (Govern word) (orders_of (big_rules word) o) o g.big g.big_due)))
+    (orders-parts (Govern word) (orders_of (big_rules word) o) o g.big)))
 
 -- ---- bytes
 

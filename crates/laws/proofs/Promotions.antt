@@ -10,13 +10,13 @@ use Rattle.laws.proofs.Counts.{counted_of, counted_in-sum, late_of, late_in-sum}
 use Rattle.laws.proofs.Entries.{with_new, come-orderly}
 use Rattle.laws.proofs.Keeping.{Keeps}
 use Rattle.laws.proofs.Lawful.{Accounts, Obeys, IsAllowed, as_move-obeys, promoted-obeys}
-use Rattle.laws.proofs.Lists.{StandsAt, FoundIn, find_some, find_none, find_only}
+use Rattle.laws.proofs.Lists.{StandsAt, FoundIn, find_some, find_none}
 use Rattle.laws.proofs.Owing.{nothing-owing}
 use Rattle.laws.proofs.Shapes.{dialing-shaped, can_acquire}
 use Rattle.laws.proofs.Orders.{Carries}
 use Rattle.laws.proofs.PeersApart.{same_turned, found-other}
 use Rattle.laws.proofs.Rises.{rises_said, hot_or_asked-down, rises_nowhere, come-down}
-use Rattle.laws.proofs.Ties.{live_one, come-ties, come_elsewhere}
+use Rattle.laws.proofs.Ties.{live_here, come-ties, come_elsewhere}
 use Rattle.laws.proofs.ToldMoves.{dials-told}
 use Rattle.laws.proofs.Trims.{keeps-trimmed, Trimmed}
 use Rattle.laws.proofs.WholeMoves.{negotiated-live, acquire-keeps}
@@ -94,19 +94,14 @@ acquire-obeys Law addr m e k h s free here law =
 
 -- ---- a promotion
 
--- no live connection has the address, or one that can be taken into use
-abbrev pub MayBy : Option Entry → Type 0
-MayBy None = Unit {0}
-MayBy (Some e) = is_acquirable e.facts ≡ true
-
--- and its peer is out of its back-off
+-- no connection has the address, or one that can be taken into use, and its peer is out of its back-off
 pub record MayPromote (m : Machine) (addr : Addr) : Type 0 where
-  pub free : MayBy (live_entry_at addr m)
+  pub free : IsFree (live_entry_at addr m) addr m
   pub ready : IsReady m.now (peer_at addr m)
 
 pub promotes-carried : Carries IsAllowed MayPromote Promote
 promotes-carried addr m h within may = by_option (live_entry_at addr m)
-    (λ o. MayBy o → Trimmed IsAllowed m (as_move (promoted addr) m (promoted_at o addr m)))
+    (λ o. IsFree o addr m → Trimmed IsAllowed m (as_move (promoted addr) m (promoted_at o addr m)))
     (λ none free. keeps-trimmed IsAllowed m (as_move (promoted addr) m (dial addr m)) within (dial-keeps addr m h none may.ready)
     (as_move-obeys IsAllowed (promoted addr) m (dial addr m) refl (record { back_off = may.ready; cause = tt }) (dial-accounts addr m h)))
     (λ e some free.
@@ -122,29 +117,29 @@ promotes-carried addr m h within may = by_option (live_entry_at addr m)
 unmet : (addr : Addr) (es : List Entry) → list_any (λ e. same_address e.facts.addr addr && is_any e) es ≡ false →
     (find (λ e. is_live_at addr e.facts) es ≡ None) × (is_some (find (λ f. same_address f.addr addr) (map (λ e. e.facts) es)) ≡ false)
 unmet addr [] h = (refl, refl)
-unmet addr (e ∷ es) h = by_bool (same_address e.facts.addr addr)
-    (λ b. ((b && true) || list_any (λ x. same_address x.facts.addr addr && is_any x) es) ≡ false →
-    (find (λ x. is_live_at addr x.facts) (e ∷ es) ≡ None) × (is_some (find (λ f. same_address f.addr addr) (map (λ x. x.facts) (e ∷ es))) ≡ false))
-    (λ is none. absurd (false≢true (sym none))) (λ is none. let later = unmet addr es none in (rw is later.0, rw is later.1)) h
+unmet addr (e ∷ es) h = let later = unmet addr es in (grind (arith, h, later), grind (arith, h, later))
 
--- what can be taken into use is the live connection of its address
-acquirable-free : (addr : Addr) (m : Machine) → IsOrdered m → some_connection (λ e. is_acquirable e.facts) addr m ≡ true → IsFree (live_entry_at addr m) addr m
-acquirable-free addr m h takes = by_option (find takes_at m.connections) (λ o. IsFree (live_entry_at addr m) addr m)
-    (λ is. absurd (both_ways (list_any takes_at m.connections) (list_any_none takes_at m.connections (find_none takes_at m.connections is)) takes))
-    (λ e is.
-    let at : FoundIn takes_at m.connections e = find_some takes_at m.connections e is in
-    let parts = and_parts (same_address e.facts.addr addr) (is_acquirable e.facts) at.passes in
-    let live : is_live e.facts ≡ true = negotiated-live e.facts.phase (can_acquire e.facts parts.1).negotiated in
-    let found : live_entry_at addr m ≡ Some e = find_only (λ x. is_live_at addr x.facts) e m.connections at.place (live_one addr m h.orderly.addresses) at.stands
-    (and_from (same_address e.facts.addr addr) (is_live e.facts) parts.0 live) in
-    subst (λ o. IsFree o addr m) (sym found) parts.1)
+-- where a connection of an address passes a test that live ones alone pass, it is the live one of the address
+pub live-passes : (test : Entry → Bool) (addr : Addr) (m : Machine) → IsOrdered m → ((e : Entry) (k : ℕ) → StandsAt m.connections k e → test e ≡ true → is_live e.facts ≡ true) →
+    some_connection test addr m ≡ true → (e : Entry) × (live_entry_at addr m ≡ Some e) × (test e ≡ true)
+live-passes test addr m h live passes = by_find (find (λ e. same_address e.facts.addr addr && test e) m.connections) refl
   where
-    takes_at : Entry → Bool
-    takes_at e = same_address e.facts.addr addr && is_acquirable e.facts
+    by_find : (o : Option Entry) → find (λ e. same_address e.facts.addr addr && test e) m.connections ≡ o → (e : Entry) × (live_entry_at addr m ≡ Some e) × (test e ≡ true)
+    by_find None is = absurd (both_ways (some_connection test addr m) (list_any_none _ m.connections (find_none _ m.connections is)) passes)
+    by_find (Some e) is =
+        let at : FoundIn (λ x. same_address x.facts.addr addr && test x) m.connections e = find_some (λ x. same_address x.facts.addr addr && test x) m.connections e is in
+        let parts = and_parts (same_address e.facts.addr addr) (test e) at.passes in (
+          e,
+          subst (λ a. live_entry_at a m ≡ Some e) (same_address-true e.facts.addr addr parts.0)
+              (live_here m e at.place h.orderly at.stands (live e at.place at.stands parts.1)),
+          parts.1,
+        )
 
 pub free-may : (addr : Addr) (m : Machine) → IsOrdered m → (not (some_connection is_any addr m) || some_connection (λ e. is_acquirable e.facts) addr m) ≡ true →
     IsFree (live_entry_at addr m) addr m
 free-may addr m h either = by_bool (some_connection is_any addr m)
     (λ b. (not b || some_connection (λ e. is_acquirable e.facts) addr m) ≡ true → IsFree (live_entry_at addr m) addr m)
-    (λ any takes. acquirable-free addr m h takes)
+    (λ any takes.
+    let taken = live-passes (λ e. is_acquirable e.facts) addr m h (λ e k s free. negotiated-live e.facts.phase (can_acquire e.facts free).negotiated) takes in
+    subst (λ o. IsFree o addr m) (sym taken.1) taken.2)
     (λ none free. let nobody = unmet addr m.connections none in subst (λ o. IsFree o addr m) (sym nobody.0) nobody.1) either
