@@ -1,7 +1,7 @@
 -- What is remembered of peers, and whose failures are forgiven, through each part of an event.
 use Rattle.std.proofs.Common.{ℕ, ◌+◌, ◌%◌, ◌≡◌, ◌⊎◌, Bool, true, false, not, ◌&&◌, ◌||◌, ◌==◌, if◌then◌else◌, List, [], ◌∷◌, find, is_none, Option, Some, None, refl, sym, ap, ◌∙◌, subst, inl, inr, arith, eqb-true}
 use Rattle.laws.proofs.Words.{list_any_at, cond_both, both_ways, false≢true, and_parts, and_from, false_from_ne_true, not-true}
-use Rattle.laws.specs.Words.{option_map, unwrap_or, choice_of, is_candidate, is_counted, acquired, agreed_outbound, expired, has_id, is_acquirable, is_dialing, is_live, is_live_at, is_negotiated, is_outbound, is_pending, opening_phase, runs, Order, Ask, Forget, Promote, Release, Activate, Deactivate, verdict_of, answer_of, Verdict, kind_of, CutFault, Item, same_address, failed_peer, Close, CloseCause, Unused, Pruned, Overwritten, Refused, Query, Fault, Protocol, HandshakeWait, ReplyWait, Addr, Facts, Phase, Greeting, Negotiated, Peer, Cold, Warm, Hot, Kind, entered_by, new_peer, New, Seen, with_entry, without_entry, entry_turns, is_missed, lost, ending, vanishes, closing_entry, grace_over, acquire, candidates_in, trim, release, awake, idle, dial, dial_opens, fires_as, Effect, shared, unused, tells, nothing_more, then_do, as_move, on_entry, closes, dialed, promoted_at, is_used_at, on_used, asks_peer, activates, deactivates, carries_out, role_of, judged, greets, Machine, Entry, entry_at, live_entry_at, own_info, peer_at, peer_changes, peer_fails, peer_becomes, peer_goes, peer_comes, is_wanted_big, owing, paid, handled_in, handled, faulted, stops_if, serves, begins, brings, talks, is_greeting_phase, Cid}
+use Rattle.laws.specs.Words.{option_map, unwrap_or, choice_of, is_candidate, is_counted, acquired, agreed_outbound, expired, has_id, is_acquirable, is_dialing, is_live, is_live_at, is_negotiated, is_outbound, is_pending, opening_phase, runs, Order, Ask, Forget, Promote, Release, Activate, Deactivate, verdict_of, answer_of, Verdict, kind_of, CutFault, Item, same_address, failed_peer, Close, CloseCause, Unused, Pruned, Overwritten, Refused, Query, Fault, Protocol, HandshakeWait, ReplyWait, Addr, Facts, Phase, Greeting, Negotiated, Peer, Temp, Cold, Warm, Hot, Kind, entered_by, new_peer, New, Seen, with_entry, without_entry, entry_turns, is_missed, lost, ending, vanishes, closing_entry, grace_over, acquire, candidates_in, trim, release, awake, idle, dial, dial_opens, fires_as, Effect, shared, unused, tells, nothing_more, then_do, as_move, on_entry, closes, dialed, promoted_at, is_used_at, on_used, asks_peer, activates, deactivates, carries_out, role_of, judged, greets, Machine, Entry, entry_at, live_entry_at, own_info, peer_at, peer_changes, peer_fails, peer_becomes, peer_goes, peer_comes, is_wanted_big, owing, paid, handled_in, handled, faulted, stops_if, serves, begins, brings, talks, is_greeting_phase, Cid}
 use Rattle.laws.specs.Words.verdict
 use Rattle.laws.specs.Words.kind
 use Rattle.laws.specs.Acts.{Act, fires_one, carries, ends_dial, handles_item, ends_stream, is_closed, makes_ordinary, provides, provides_big, does}
@@ -26,6 +26,7 @@ use Rattle.laws.proofs.Ties.{put_in-elsewhere, none_there, taken-elsewhere, take
 use Rattle.laws.proofs.ToldMoves.{turns_at-connections}
 use Rattle.laws.proofs.WholeMoves.{pending-unnegotiated}
 use Rattle.laws.specs.CarriedOut.{OnPeer, WhereGreeting, is_in_use, Forgives}
+use Rattle.laws.proofs.Books.{AtEach, same-each, changed-each, comes-each, goes-each}
 use Rattle.laws.proofs.Cases.{by_bool, by_option, some_same}
 use Rattle.laws.proofs.PeersApart.{entered-cases}
 
@@ -64,14 +65,14 @@ still_then = stays_then IsRemembered IsRemembered IsRemembered
     (λ p q r one two. record { failures = two.failures ∙ one.failures; not_before = two.not_before ∙ one.not_before; share_next = two.share_next ∙ one.share_next })
 
 abbrev Still : Machine → Machine → Type 0
-Still m n = (b : Addr) → StillAt (peer_at b m) (peer_at b n)
+Still = AtEach (λ a. StillAt)
 
 -- but at one address
 abbrev Others : Addr → Machine → Machine → Type 0
 Others a m n = (b : Addr) → same_address b a ≡ false → StillAt (peer_at b m) (peer_at b n)
 
 same-still : (m n : Machine) → n.peers ≡ m.peers → Still m n
-same-still m n same b = subst (λ ps. StillAt (peer_at b m) (peer_at b (record m { peers = ps }))) (sym same) (still_itself (peer_at b m))
+same-still = same-each (λ a. StillAt) (λ a. still_itself)
 
 both-still : (m n o : Machine) → Still m n → Still n o → Still m o
 both-still m n o one two b = still_then (peer_at b m) (peer_at b n) (peer_at b o) (one b) (two b)
@@ -106,24 +107,13 @@ changed-stays law a change m same each =
     subst (Stays law (peer_at a m)) (sym (changed-found a change m same)) (by_option (peer_at a m) (λ o. Stays law o (option_map change o)) (λ is. tt) (λ p is. each p))
 
 changed-still : (a : Addr) (change : Peer → Peer) (m : Machine) → ((p : Peer) → (change p).addr ≡ p.addr) → ((p : Peer) → IsRemembered p (change p)) → Still m (peer_changes a change m).machine
-changed-still a change m same keeps b = by_bool (same_address b a) (λ c. StillAt (peer_at b m) (peer_at b (peer_changes a change m).machine))
-    (λ is. subst (λ x. StillAt (peer_at x m) (peer_at x (peer_changes a change m).machine)) (sym (same_address-true b a is)) (changed-stays IsRemembered a change m same keeps))
-    (λ other. changed-others a change m same b other)
+changed-still = changed-each (λ a. StillAt) (λ a. still_itself)
 
-becomes-still : (t : _) (a : Addr) (m : Machine) → Still m (peer_becomes t a m).machine
+becomes-still : (t : Temp) (a : Addr) (m : Machine) → Still m (peer_becomes t a m).machine
 becomes-still t a m = changed-still a (λ p. record p { temp = t }) m (λ p. refl) (λ p. record { failures = refl; not_before = refl; share_next = refl })
 
 comes-still : (big : Bool) (a : Addr) (m : Machine) → Still m (peer_comes big a m).machine
-comes-still big a m = subst (Still m) (sym (comes-machine big a m)) (entered-cases new m.peers (λ ps. Still m (record m { peers = ps })) (same-still m m refl)
-    (λ none room. comes (none_there (peer_at a m) none)))
-  where
-    new : Peer
-    new = new_peer big a
-
-    comes : peer_at a m ≡ None → Still m (record m { peers = entered_by New new m.peers })
-    comes none b = by_bool (same_address b a) (λ c. StillAt (peer_at b m) (peer_at b (record m { peers = entered_by New new m.peers })))
-        (λ is. subst (λ o. StillAt o (peer_at b (record m { peers = entered_by New new m.peers }))) (sym (ap (λ x. peer_at x m) (same_address-true b a is) ∙ none)) tt)
-        (λ other. subst (StillAt (peer_at b m)) (sym (put_in-elsewhere new b m.peers other)) (still_itself (peer_at b m)))
+comes-still big a m = comes-each (λ b. StillAt) (λ b. still_itself) big a m tt
 
 -- ---- a connection goes
 
@@ -369,10 +359,7 @@ promotes-treats addr m = by_option (live_entry_at addr m) (λ o. One IsTaken add
     dials = one-stays IsTaken itself spares addr m (dial addr m).machine refl
 
 forgets-remembers : (addr : Addr) (m : Machine) → AllRemembered m (peer_goes addr m).machine
-forgets-remembers addr m b = by_bool (same_address b addr) (λ c. WhereBoth IsRemembered (peer_at b m) (peer_at b (peer_goes addr m).machine))
-    (λ is. subst (WhereBoth IsRemembered (peer_at b m)) (sym (ap (λ x. peer_at x (peer_goes addr m).machine) (same_address-true b addr is) ∙ taken-here addr m.peers))
-    (by_option (peer_at b m) (λ o. WhereBoth IsRemembered o None) (λ gone. tt) (λ p there. tt)))
-    (λ other. subst (WhereBoth IsRemembered (peer_at b m)) (sym (taken-elsewhere addr b m.peers other)) (stays_both IsRemembered (peer_at b m) (peer_at b m) (still_itself (peer_at b m))))
+forgets-remembers addr m = goes-each (λ a. WhereBoth IsRemembered) (λ a o. stays_both IsRemembered o o (still_itself o)) addr m (λ p. tt)
 
 -- a release is no failure
 pub released-peers : (m : Machine) (e : Entry) (k : ℕ) → IsOrdered m → StandsAt m.connections k e → e.facts.local ≡ true → (trim e.facts.cid (cooled e m)).machine.peers ≡ (cooled e m).peers

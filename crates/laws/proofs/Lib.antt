@@ -79,5 +79,6 @@ mod Pruning
 mod Walk
 mod Cases
 mod Each
+mod Books
 pub mod Words
 mod Items
