@@ -1,7 +1,7 @@
 -- What is remembered of peers, and whose failures are forgiven, through each part of an event.
 use Rattle.std.proofs.Common.{ℕ, ◌+◌, ◌%◌, ◌≡◌, ◌⊎◌, Bool, true, false, not, ◌&&◌, ◌||◌, ◌==◌, if◌then◌else◌, List, [], ◌∷◌, find, is_none, Option, Some, None, refl, sym, ap, ◌∙◌, subst, inl, inr, arith, eqb-true}
 use Rattle.laws.proofs.Words.{list_any_at, cond_both, both_ways, false≢true, and_parts, and_from, false_from_ne_true, not-true}
-use Rattle.laws.specs.Words.{option_map, unwrap_or, choice_of, is_candidate, is_counted, acquired, agreed_outbound, expired, has_id, is_acquirable, is_dialing, is_live, is_live_at, is_negotiated, is_outbound, is_pending, opening_phase, runs, Order, Ask, Forget, Promote, Release, Activate, Deactivate, verdict_of, answer_of, Verdict, kind_of, CutFault, Item, same_address, failed_peer, Close, CloseCause, Unused, Pruned, Overwritten, Refused, Query, Fault, Protocol, HandshakeWait, ReplyWait, Addr, Facts, Phase, Greeting, Negotiated, Peer, Temp, Cold, Warm, Hot, Kind, entered_by, new_peer, New, Seen, with_entry, without_entry, entry_turns, is_missed, lost, ending, vanishes, closing_entry, grace_over, acquire, candidates_in, trim, release, awake, idle, dial, dial_opens, fires_as, Effect, shared, unused, tells, nothing_more, then_do, as_move, on_entry, closes, dialed, promoted_at, is_used_at, on_used, asks_peer, activates, deactivates, carries_out, role_of, judged, greets, Machine, Entry, entry_at, live_entry_at, own_info, peer_at, peer_changes, peer_fails, peer_becomes, peer_goes, peer_comes, is_wanted_big, owing, paid, handled_in, handled, faulted, stops_if, serves, begins, brings, talks, is_greeting_phase, Cid}
+use Rattle.laws.specs.Words.{option_map, unwrap_or, choice_of, is_candidate, is_counted, acquired, agreed_outbound, expired, has_id, is_acquirable, is_dialing, is_live, is_live_at, is_negotiated, is_outbound, is_pending, opening_phase, runs, Order, Ask, Forget, Promote, Release, Activate, Deactivate, verdict_of, answer_of, Verdict, kind_of, CutFault, Item, same_address, failed_peer, Close, CloseCause, Unused, Pruned, Overwritten, Refused, Query, Fault, Protocol, HandshakeWait, ReplyWait, Addr, Facts, Phase, Greeting, Negotiated, Peer, Temp, Cold, Warm, Hot, Kind, Seen, with_entry, without_entry, entry_turns, is_missed, lost, ending, vanishes, closing_entry, grace_over, acquire, candidates_in, trim, release, awake, idle, dial, dial_opens, fires_as, Effect, shared, unused, tells, nothing_more, then_do, as_move, on_entry, closes, dialed, promoted_at, is_used_at, on_used, asks_peer, activates, deactivates, carries_out, role_of, judged, greets, Machine, Entry, entry_at, live_entry_at, own_info, peer_at, peer_changes, peer_fails, peer_becomes, peer_goes, peer_comes, is_wanted_big, owing, paid, handled_in, handled, faulted, stops_if, serves, begins, brings, talks, is_greeting_phase, Cid}
 use Rattle.laws.specs.Words.verdict
 use Rattle.laws.specs.Words.kind
 use Rattle.laws.specs.Acts.{Act, fires_one, carries, ends_dial, handles_item, ends_stream, is_closed, makes_ordinary, provides, provides_big, does}
@@ -17,18 +17,17 @@ use Rattle.laws.proofs.Goes.{vanishes-none}
 use Rattle.laws.proofs.ItemCases.{greets-cases, talks-cases, brings-cases, trim-cases}
 use Rattle.laws.proofs.Spending.{used-here}
 use Rattle.laws.proofs.Walk.{agrees_inbound, agrees_outbound, is_released, awakes, turned_by, cooled, answer-machine, release-machine, replies-machine, Finds}
-use Rattle.laws.proofs.Lawful.{stands-found, comes-machine}
+use Rattle.laws.proofs.Lawful.{stands-found}
 use Rattle.laws.proofs.Lists.{StandsAt, FoundIn, find_some, All-stands}
 use Rattle.laws.proofs.Moments.{ending-none, turned-found}
 use Rattle.laws.proofs.Pruning.{chosen-goes}
 use Rattle.laws.proofs.Shapes.{local-negotiated}
-use Rattle.laws.proofs.Ties.{put_in-elsewhere, none_there, taken-elsewhere, taken-here, turns_at-elsewhere}
+use Rattle.laws.proofs.Ties.{turns_at-elsewhere}
 use Rattle.laws.proofs.ToldMoves.{turns_at-connections}
 use Rattle.laws.proofs.WholeMoves.{pending-unnegotiated}
 use Rattle.laws.specs.CarriedOut.{OnPeer, WhereGreeting, is_in_use, Forgives}
 use Rattle.laws.proofs.Books.{AtEach, same-each, changed-each, comes-each, goes-each}
 use Rattle.laws.proofs.Cases.{by_bool, by_option, some_same}
-use Rattle.laws.proofs.PeersApart.{entered-cases}
 
 -- ---- whoever is there is there still
 

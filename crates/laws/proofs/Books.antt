@@ -1,7 +1,7 @@
 -- The peer of each address before and after: a relation between the two that everyone has to itself, and that each change of the book keeps.
-use Rattle.std.proofs.Common.{◌≡◌, Bool, true, false, [], ◌∷◌, Option, Some, None, refl, sym, ap, ◌∙◌, subst}
+use Rattle.std.proofs.Common.{◌≡◌, Bool, true, false, Option, Some, None, refl, sym, subst}
 use Rattle.laws.proofs.Words.{cond_both}
-use Rattle.laws.specs.Words.{option_map, same_address, Addr, Facts, Peer, CloseCause, Overwritten, Send, failed_peer, new_peer, lost, is_missed, ending, without_entry, entry_turns, entry_goes, dial, admitted, turned_away, Effect, nothing_more, tells, peer_fails, peer_changes, peer_comes, peer_goes, peer_at, Machine, Entry}
+use Rattle.laws.specs.Words.{option_map, same_address, Addr, Facts, Peer, CloseCause, Overwritten, failed_peer, new_peer, lost, is_missed, ending, without_entry, entry_turns, entry_goes, dial, admitted, nothing_more, peer_fails, peer_changes, peer_comes, peer_goes, peer_at, Machine, Entry}
 use Rattle.peer_book.specs.Book.{peer_at as peer_in, with_new as with_new_in}
 use Rattle.laws.specs.Acts.{Act, shows, asks_for_roots, sets_targets, sets_big_targets, sets_groups, sets_roots, does}
 use Rattle.laws.specs.Parts.{IsNext}

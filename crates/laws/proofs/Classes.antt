@@ -1,18 +1,14 @@
 -- Whoever stays in the book keeps the class, and whoever comes is of the class that is brought.
-use Rattle.std.proofs.Common.{◌≡◌, Bool, true, false, [], ◌∷◌, Option, Some, None, refl, sym, ap, ◌∙◌, subst}
-use Rattle.laws.proofs.Words.{cond_both, both_ways, false≢true}
-use Rattle.laws.specs.Words.{option_map, same_address, Addr, Facts, Peer, CloseCause, Overwritten, Forget, Send, failed_peer, new_peer, lost, is_missed, ending, without_entry, entry_turns, entry_goes, dial, admitted, turned_away, Effect, nothing_more, tells, peer_fails, peer_changes, peer_is_ordinary, peer_comes, peer_goes, peer_at, Machine, Entry}
-use Rattle.peer_book.specs.Book.{peer_at as peer_in, with_new as with_new_in}
-use Rattle.laws.specs.Acts.{Act, shows, asks_for_roots, carries, sets_targets, sets_big_targets, sets_groups, sets_roots, makes_ordinary, does}
+use Rattle.std.proofs.Common.{◌≡◌, Bool, true, false, Option, Some, None, refl, sym, ◌∙◌, subst}
+use Rattle.laws.proofs.Words.{false≢true}
+use Rattle.laws.specs.Words.{option_map, Addr, Peer, Forget, peer_is_ordinary, peer_at, Machine}
+use Rattle.laws.specs.Acts.{Act, carries, makes_ordinary, does}
 use Rattle.laws.specs.CarriedOut.{OnPeer, is_made_ordinary, brings_class, IsOfClass, KeepsClass}
 use Rattle.laws.specs.Parts.{IsNext}
 use Rattle.laws.proofs.Addresses.{same_address-true}
-use Rattle.laws.proofs.CarriedOut.{treats-book}
 use Rattle.laws.proofs.Failures.{changed-found}
-use Rattle.laws.proofs.Lawful.{comes-machine}
-use Rattle.laws.proofs.PeersApart.{entered-cases}
-use Rattle.laws.proofs.Ties.{put_in-elsewhere, put_in-here, taken-elsewhere, taken-here, turns_at-elsewhere, none_there}
-use Rattle.laws.proofs.Walk.{Finds, Scope, turned_by, shuts, Kept, scope_of, walk}
+use Rattle.laws.proofs.Ties.{turns_at-elsewhere}
+use Rattle.laws.proofs.Walk.{Finds}
 use Rattle.laws.proofs.Books.{goes-each, book-walk}
 use Rattle.laws.proofs.Cases.{by_option}
 

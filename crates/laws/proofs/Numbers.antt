@@ -1,16 +1,14 @@
 -- Ids and jobs: how many a part of a step gives out, and how many an order of the governor does.
-use Rattle.std.proofs.Common.{ℕ, ◌+◌, ◌%◌, ◌≤◌, ◌≡◌, Bool, List, [], ◌∷◌, Option, Some, None, refl, sym, ap, ◌∙◌, subst, arith, not, length, map, find}
+use Rattle.std.proofs.Common.{ℕ, ◌+◌, ◌≤◌, ◌≡◌, Bool, List, [], ◌∷◌, Option, Some, None, refl, sym, ap, ◌∙◌, subst, arith, not, length, map, find}
 use Rattle.laws.proofs.Words.{cond_both}
-use Rattle.laws.specs.Words.{unwrap_or, choice_of, failed_peer, CloseCause, Pruned, Addr, Cid, Facts, Peer, Warm, new_peer, entry_of, entered, Machine, Entry, entry_at, Effect, for_each, on_entry, turns_at, peer_at, peer_changes, peer_succeeds, peer_comes, with_entry, without_entry, lost, lost_by, ending, vanishes, is_used, candidates_in, trim, owing, released, acquired, is_acquirable, Order, Ask, Forget, Promote, Release, Activate, Deactivate, same_address, Cold, live_entry_at, peer_becomes, peer_was_asked, peer_goes, acquire, release, dial, promoted_at, promote, is_used_at, asks_peer, activates, deactivates, carries_out}
-use Rattle.peer_book.specs.Book.{peer_at as peer_in, with_peer as with_peer_in}
+use Rattle.laws.specs.Words.{option_map, failed_peer, CloseCause, Pruned, Overwritten, Addr, Cid, Facts, Peer, Warm, new_peer, entry_of, entered, Machine, Entry, Effect, for_each, on_entry, turns_at, peer_at, peer_changes, peer_comes, with_entry, without_entry, lost, ending, vanishes, trim, owing, is_acquirable, Order, Ask, Forget, Promote, Release, Activate, Deactivate, same_address, Cold, live_entry_at, peer_goes, acquire, release, dial, promoted_at, promote, is_used_at, asks_peer, activates, deactivates, carries_out}
 use Rattle.laws.specs.Steady.{ArePeersApart}
 use Rattle.laws.proofs.Keeping.{note-machine}
 use Rattle.laws.proofs.PeersApart.{with_peer-apart, filter-apart}
-use Rattle.laws.proofs.Spending.{class_at, same_but-class, with_peer-same_but}
-use Rattle.laws.proofs.Ties.{found-addr, taken-elsewhere, taken-here}
+use Rattle.laws.proofs.Books.{AtEach, changed-each, goes-each}
+use Rattle.laws.proofs.ItemCases.{trim-cases}
 use Rattle.laws.proofs.Cases.{by_option}
-use Rattle.laws.proofs.Walk.{says_done-machine}
-use Rattle.laws.proofs.Addresses.{same_address-true}
+use Rattle.laws.proofs.Walk.{release-machine, cooled, turned_by, is_released}
 
 -- ---- the numbers that are given next
 
@@ -40,74 +38,58 @@ none_then first second = gains_then 0 0 first second
 
 -- ---- a part of a step
 
+-- the class of whoever is there after it is what it was
+abbrev IsOfClass : Addr → Option Peer → Option Peer → Type 0
+IsOfClass a before after = (big : Bool) → option_map (λ p. p.big) after ≡ Some big → option_map (λ p. p.big) before ≡ Some big
+
 -- And no peer comes, and none changes its class.
 pub record Gives (ids : ℕ) (before after : Machine) : Type 0 where
   pub numbers : Gains ids (numbers_of before) (numbers_of after)
   pub groups : after.groups ≡ before.groups
   pub apart : ArePeersApart before.peers → ArePeersApart after.peers
-  pub kept : ArePeersApart before.peers → (a : Addr) (big : Bool) → class_at a after.peers ≡ Some big → class_at a before.peers ≡ Some big
+  pub kept : AtEach IsOfClass before after
 
 pub gives_nothing : (m : Machine) → Gives 0 m m
-gives_nothing m = record { numbers = unchanged refl; groups = refl; apart = λ h. h; kept = λ h a big is. is }
+gives_nothing m = record { numbers = unchanged refl; groups = refl; apart = λ h. h; kept = λ a big is. is }
 
-pub gives_then : (i j : ℕ) (m n o : Machine) → Gives i m n → Gives j n o → Gives (i + j) m o
-gives_then i j m n o first second = record {
+pub gives_then : {i j : ℕ} {m n o : Machine} → Gives i m n → Gives j n o → Gives (i + j) m o
+gives_then {i} {j} first second = record {
   numbers = gains_then i j first.numbers second.numbers;
   groups = second.groups ∙ first.groups;
   apart = λ h. second.apart (first.apart h);
-  kept = λ h a big is. first.kept h a big (second.kept (first.apart h) a big is);
+  kept = λ a big is. first.kept a big (second.kept a big is);
 }
 
-pub gives_more : (i j : ℕ) (m n : Machine) → i ≤ j → Gives i m n → Gives j m n
-gives_more i j m n more h = record { numbers = record { id = omega (arith, more, h.numbers.id); job = h.numbers.job }; groups = h.groups; apart = h.apart; kept = h.kept }
+pub gives_more : {i j : ℕ} {m n : Machine} → i ≤ j → Gives i m n → Gives j m n
+gives_more more h = record { numbers = record { id = omega (arith, more, h.numbers.id); job = h.numbers.job }; groups = h.groups; apart = h.apart; kept = h.kept }
 
-pub connections-gives : (connections : List Entry) (m : Machine) → Gives 0 m (record m { connections = connections })
-connections-gives connections m = record { numbers = unchanged refl; groups = refl; apart = λ h. h; kept = λ h a big is. is }
+connections-gives : (connections : List Entry) (m : Machine) → Gives 0 m (record m { connections = connections })
+connections-gives connections m = record { numbers = unchanged refl; groups = refl; apart = λ h. h; kept = λ a big is. is }
 
 -- a change that keeps addresses and classes
-pub changes-gives : (addr : Addr) (change : Peer → Peer) (m : Machine) → ((p : Peer) → (change p).addr ≡ p.addr) → ((p : Peer) → (change p).big ≡ p.big) →
+changes-gives : (addr : Addr) (change : Peer → Peer) (m : Machine) → ((p : Peer) → (change p).addr ≡ p.addr) → ((p : Peer) → (change p).big ≡ p.big) →
     Gives 0 m (peer_changes addr change m).machine
-changes-gives addr change m same class = by_option (peer_at addr m) (λ o. Gives 0 m (turns_at o change m).machine)
-    (λ is. gives_nothing m)
-    (λ p is.
-    let new : Peer = change p in
-    let found : peer_in new.addr m.peers ≡ Some p = subst (λ a. peer_in a m.peers ≡ Some p) (sym (same p ∙ found-addr addr m.peers p is)) is in
-    record {
-      numbers = unchanged refl;
-      groups = refl;
-      apart = λ h. with_peer-apart new m.peers h;
-      kept = λ h a big is. sym (same_but-class new.addr a m.peers (with_peer_in new m.peers) (with_peer-same_but new p m.peers h found (class p))) ∙ is;
-    })
+changes-gives addr change m same class =
+    let kept = changed-each IsOfClass (λ a o big is. is) addr change m same (λ p big is. ap Some (sym (class p)) ∙ is) in
+    by_option (peer_at addr m) (λ o. AtEach IsOfClass m (turns_at o change m).machine → Gives 0 m (turns_at o change m).machine)
+    (λ is kept. gives_nothing m) (λ p is kept. record { numbers = unchanged refl; groups = refl; apart = with_peer-apart (change p) m.peers; kept = kept }) kept
 
 -- ---- a connection goes
 
 lost-gives : (f : Facts) (m : Machine) → Gives 0 m (lost f m).machine
 lost-gives f m = grind (arith, gives_nothing m, changes-gives f.addr (failed_peer m.now m.settings.backoff) m (λ p. refl) (λ p. refl))
 
-lost_by-gives : (cause : CloseCause) (f : Facts) (m : Machine) → Gives 0 m (lost_by cause f m).machine
-lost_by-gives cause f m = grind (arith, gives_nothing m, lost-gives f m)
-
 ending-gives : (cause : CloseCause) (e : Entry) (m : Machine) → Gives 0 m (ending cause e m).machine
-ending-gives cause e m =
-    let n : Machine = without_entry e.facts.cid.0 m in
-    gives_then 0 0 m n (lost_by cause e.facts n).machine (connections-gives n.connections m) (lost_by-gives cause e.facts n)
+ending-gives Overwritten e m = connections-gives _ m
+ending-gives other e m = gives_then (connections-gives _ m) (lost-gives e.facts (without_entry e.facts.cid.0 m))
 
-pub on_entry-gives : (k : ℕ) (act : Entry → Machine → Effect) → ((e : Entry) (m : Machine) → Gives k m (act e m).machine) → (o : Option Entry) (m : Machine) →
+on_entry-gives : (k : ℕ) (act : Entry → Machine → Effect) → ((e : Entry) (m : Machine) → Gives k m (act e m).machine) → (o : Option Entry) (m : Machine) →
     Gives k m (on_entry o act m).machine
-on_entry-gives k act each None m = gives_more 0 k m m (omega arith) (gives_nothing m)
+on_entry-gives k act each None m = gives_more (omega arith) (gives_nothing m)
 on_entry-gives k act each (Some e) m = each e m
 
-pub trim-gives : (moved : Cid) (m : Machine) → Gives 0 m (trim moved m).machine
-trim-gives moved m =
-    grind (arith, gives_nothing m, on_entry-gives 0 (ending Pruned) (ending-gives Pruned) (entry_at (unwrap_or (choice_of (candidates_in m)) moved).0 m) m)
-
--- ---- a connection comes into use
-
-pub is_used-gives : (f : Facts) (e : Entry) (m : Machine) → Gives 0 m (is_used f e m).machine
-is_used-gives f e m =
-    let n : Machine = with_entry (owing 8 (f.cid.0 % 65536) m (record e { facts = f })) m in
-    gives_then 0 0 m n (peer_succeeds f.addr n).machine (connections-gives n.connections m)
-    (changes-gives f.addr (λ p. record p { temp = Warm; failures = 0 }) n (λ p. refl) (λ p. refl))
+trim-gives : (moved : Cid) (m : Machine) → Gives 0 m (trim moved m).machine
+trim-gives moved m = trim-cases moved m (λ effect. Gives 0 m effect.machine) (gives_nothing m) (λ e is. ending-gives Pruned e m)
 
 -- ---- a part of which this alone is said, whatever comes of the book
 
@@ -141,39 +123,32 @@ vanishes-none e m = (lost-gives e.facts (without_entry e.facts.cid.0 m)).numbers
 
 -- ---- the governor's orders
 
-release-gives : (e : Entry) (m : Machine) → Gives 0 m (release e m).machine
-release-gives e m =
-    let turned : Machine → Machine = λ n. with_entry (record e { facts = released (n.now + n.settings.idle) e.facts }) n in
-    let rest : Machine → Machine = λ n. (trim e.facts.cid (peer_becomes Cold e.facts.addr (turned n)).machine).machine in
-    let n : Machine = turned m in
-    let o : Machine = (peer_becomes Cold e.facts.addr n).machine in
-    subst (λ w. Gives 0 m (rest w)) (sym (says_done-machine e.facts m)) (gives_then 0 0 m n (rest m) (connections-gives n.connections m)
-    (gives_then 0 0 n o (rest m) (changes-gives e.facts.addr (λ p. record p { temp = Cold }) n (λ p. refl) (λ p. refl)) (trim-gives e.facts.cid o)))
+-- a connection turns, and its peer
+turn-gives : (new : Entry) (addr : Addr) (change : Peer → Peer) (m : Machine) → ((p : Peer) → (change p).addr ≡ p.addr) → ((p : Peer) → (change p).big ≡ p.big) →
+    Gives 0 m (peer_changes addr change (with_entry new m)).machine
+turn-gives new addr change m same class = gives_then (connections-gives (with_entry new m).connections m) (changes-gives addr change (with_entry new m) same class)
 
-asks_peer-gives : (number : ℕ) (e : Entry) (m : Machine) → Gives 0 m (asks_peer number e m).machine
-asks_peer-gives number e m =
-    let n : Machine = with_entry (owing 10 number m e) m in
-    let next : ℕ = m.now + m.settings.sharegap in
-    gives_then 0 0 m n (peer_was_asked next e.facts.addr n).machine (connections-gives n.connections m)
-    (changes-gives e.facts.addr (λ p. record p { share_next = next }) n (λ p. refl) (λ p. refl))
+release-gives : (e : Entry) (m : Machine) → Gives 0 m (release e m).machine
+release-gives e m = subst (Gives 0 m) (sym (release-machine e m)) (gives_then
+    (turn-gives (turned_by is_released e m) e.facts.addr (λ p. record p { temp = Cold }) m (λ p. refl) (λ p. refl)) (trim-gives e.facts.cid (cooled e m)))
 
 -- who is forgotten has no class
 peer_goes-gives : (addr : Addr) (m : Machine) → Gives 0 m (peer_goes addr m).machine
 peer_goes-gives addr m = record {
   numbers = unchanged refl;
   groups = refl;
-  apart = λ h. filter-apart (λ p. not (same_address p.addr addr)) m.peers h;
-  kept = λ h a big is. grind (arith, is, same_address-true a addr, taken-here addr m.peers, taken-elsewhere addr a m.peers);
+  apart = filter-apart (λ p. not (same_address p.addr addr)) m.peers;
+  kept = goes-each IsOfClass (λ a o big is. is) addr m (λ p big is. absurd cc);
 }
 
 dial-gives : (addr : Addr) (m : Machine) → Gives 1 m (dial addr m).machine
-dial-gives addr m = record { numbers = one_more (numbers_of m); groups = refl; apart = λ h. h; kept = λ h a big is. is }
+dial-gives addr m = record { numbers = one_more (numbers_of m); groups = refl; apart = λ h. h; kept = λ a big is. is }
 
 promote-gives : (addr : Addr) (m : Machine) → Gives 1 m (promote addr m).machine
 promote-gives addr m = by_option (live_entry_at addr m) (λ o. Gives 1 m (promoted_at o addr m).machine)
     (λ is. dial-gives addr m)
     (λ e is. cond_both (is_acquirable e.facts) (acquire e m) (dial addr m) (λ effect. Gives 1 m effect.machine)
-    (λ free. gives_more 0 1 m (acquire e m).machine (omega arith) (is_used-gives (acquired e.facts) e m)) (λ other. dial-gives addr m))
+    (λ free. gives_more (omega arith) (turn-gives _ e.facts.addr (λ p. record p { temp = Warm; failures = 0 }) m (λ p. refl) (λ p. refl))) (λ other. dial-gives addr m))
 
 -- ---- many orders
 
@@ -183,7 +158,8 @@ ids_of (Promote addr) = 1
 ids_of other = 0
 
 carries-gives : (order : Order) (m : Machine) → Gives (ids_of order) m (carries_out order m).machine
-carries-gives (Ask addr number) m = on_entry-gives 0 (asks_peer number) (asks_peer-gives number) (find (is_used_at addr) m.connections) m
+carries-gives (Ask addr number) m = on_entry-gives 0 (asks_peer number)
+    (λ e n. turn-gives (owing 10 number n e) e.facts.addr (λ p. record p { share_next = n.now + n.settings.sharegap }) n (λ p. refl) (λ p. refl)) (find (is_used_at addr) m.connections) m
 carries-gives (Forget addr) m = peer_goes-gives addr m
 carries-gives (Promote addr) m = promote-gives addr m
 carries-gives (Release addr) m = on_entry-gives 0 release release-gives (find (is_used_at addr) m.connections) m
@@ -198,14 +174,9 @@ pub still-gives : (order : Addr → Order) → ((addr : Addr) → ids_of (order 
 unfolding for_each
 still-gives order none [] m = gives_nothing m
 still-gives order none (a ∷ addrs) m =
-    let n : Machine = (carries_out (order a) m).machine in
-    gives_then 0 0 m n (for_each carries_out (map order addrs) n).machine (subst (λ ids. Gives ids m n) (none a) (carries-gives (order a) m)) (still-gives order none addrs n)
+    gives_then (subst (λ ids. Gives ids m (carries_out (order a) m).machine) (none a) (carries-gives (order a) m)) (still-gives order none addrs (carries_out (order a) m).machine)
 
 pub promotes-gives : (addrs : List Addr) (m : Machine) → Gives (length addrs) m (for_each carries_out (map Promote addrs) m).machine
 unfolding for_each
 promotes-gives [] m = gives_nothing m
-promotes-gives (a ∷ addrs) m =
-    let n : Machine = (promote a m).machine in
-    let o : Machine = (for_each carries_out (map Promote addrs) n).machine in
-    gives_more (1 + length addrs) (length (a ∷ addrs)) m o (omega arith)
-    (gives_then 1 (length addrs) m n o (promote-gives a m) (promotes-gives addrs n))
+promotes-gives (a ∷ addrs) m = gives_more (omega arith) (gives_then (promote-gives a m) (promotes-gives addrs (promote a m).machine))

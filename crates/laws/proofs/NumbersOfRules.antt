@@ -4,7 +4,7 @@ use Rattle.laws.proofs.Words.{sum_by-cons, sum_by-filter_both, cond_both, and_pa
 use Rattle.laws.specs.Words.{AllByRecursion, option_map, has_address, without_peer, same_address, Addr, Group, Peer, is_of, is_listed, members_of, big_orders, is_eligible, orders_for, is_member_and, members_count, g4_orders, g5_orders, g9_orders, B5, Order, Ask, Forget, Promote, Release, Activate, Deactivate, AskRoots, is_established, may_ask, asked, Machine, Effect, nothing_more, tells, then_do, for_each, link_of, view_of, carries_out, ordinary_rules, big_rules, rules, govern}
 use Rattle.laws.specs.Steady.{ArePeersApart, AreApart, IsFormed, GivesFew}
 use Rattle.laws.proofs.Chosen.{chosen, chosen-all, chosen-apart, PicksMembers, picks-listed, groups_picks-apart, groups_picks-all, map-groups, picks_in, group_picks, hot_free, hot_members, g9-same}
-use Rattle.laws.proofs.Lists.{all-both, all-weaker}
+use Rattle.laws.proofs.Each.{weaker, weaker-both, count-cons}
 use Rattle.laws.proofs.Addresses.{same_address-true}
 use Rattle.laws.proofs.Spending.{class_at}
 use Rattle.laws.proofs.Ties.{taken-elsewhere}
@@ -36,9 +36,8 @@ pub distinct-number : (test : Addr → Bool → Bool) (addrs : List Addr) (ps : 
     length addrs ≤ number_of test ps
 distinct-number test [] ps apart found = omega arith
 distinct-number test (a ∷ addrs) ps apart found =
-    let others : AllByRecursion (IsFoundWith test (without_peer a ps)) addrs =
-    all-both (λ b. same_address b a ≡ false) (IsFoundWith test ps) (IsFoundWith test (without_peer a ps))
-    (λ b other h. record { big = h.big; found = ap (option_map (λ p. p.big)) (taken-elsewhere a b ps other) ∙ h.found; passes = h.passes }) addrs apart.0 found.1 in
+    let others : AllByRecursion (IsFoundWith test (without_peer a ps)) addrs = weaker-both addrs
+    (λ b other h. record { big = h.big; found = ap (option_map (λ p. p.big)) (taken-elsewhere a b ps other) ∙ h.found; passes = h.passes }) apart.0 found.1 in
     omega (arith, one_goes test a found.0.big ps found.0.passes found.0.found, distinct-number test addrs (without_peer a ps) apart.1 others)
 
 -- ---- whom the rules pick
@@ -56,9 +55,8 @@ is_big_one a big = big
 pub kinds-number : (groups : List Group) (ps : List Peer) →
     number_of (is_local_one groups) ps + number_of (is_other_one groups) ps + number_of is_big_one ps ≤ length ps
 kinds-number groups [] = omega arith
-kinds-number groups (p ∷ ps) =
-    let counts : (Addr → Bool → Bool) → Peer → ℕ = λ test x. cond {A = ℕ} (test x.addr x.big) 1 0 in
-    grind (arith, kinds-number groups ps, sum_by-cons (counts (is_local_one groups)) p ps, sum_by-cons (counts (is_other_one groups)) p ps, sum_by-cons (counts is_big_one) p ps)
+kinds-number groups (p ∷ ps) = grind (arith, kinds-number groups ps, count-cons (λ x. is_local_one groups x.addr x.big) p ps,
+    count-cons (λ x. is_other_one groups x.addr x.big) p ps, count-cons (λ x. x.big) p ps)
 
 -- whoever is picked is of a kind where the candidates are
 pub chosen-found : (kind : Addr → Bool → Bool) (big : Bool) (word number : ℕ) (test : Peer → Bool) (peers : List Peer) → ArePeersApart peers →
@@ -69,23 +67,21 @@ chosen-found kind big word number test peers apart gives =
 -- ---- each rule
 
 -- From a record on, after other rules that gave so many ids, a rule gives so many more at most.
-DoesGive : Machine → ℕ → (Machine → Effect) → Type 0
-DoesGive start ids act = (given : ℕ) (m : Machine) → Gives given start m → Gives (given + ids) start (act m).machine
+record DoesGive (start : Machine) (ids : ℕ) (act : Machine → Effect) : Type 0 where
+  gives : (given : ℕ) (m : Machine) → Gives given start m → Gives (given + ids) start (act m).machine
 
-still-rule : (start : Machine) (act : Machine → Effect) → ((m : Machine) → Gives 0 m (act m).machine) → DoesGive start 0 act
-unfolding DoesGive
-still-rule start act each given m h = gives_then given 0 start m (act m).machine h (each m)
+still-rule : {start : Machine} {act : Machine → Effect} → ((m : Machine) → Gives 0 m (act m).machine) → DoesGive start 0 act
+still-rule each = record { gives = λ given m h. gives_then h (each m) }
 
 no_rules : (start : Machine) → DoesGive start 0 (for_each rules [])
-unfolding DoesGive for_each
-no_rules start given m h = gives_then given 0 start m m h (gives_nothing m)
+unfolding for_each
+no_rules start = record { gives = λ given m h. gives_then h (gives_nothing m) }
 
-rule_then : (start : Machine) (i j : ℕ) (r : Machine → List Order) (rs : List (Machine → List Order)) → DoesGive start i (rules r) →
+rule_then : {start : Machine} {i j : ℕ} (r : Machine → List Order) (rs : List (Machine → List Order)) → DoesGive start i (rules r) →
     DoesGive start j (for_each rules rs) → DoesGive start (i + j) (for_each rules (r ∷ rs))
-unfolding DoesGive for_each
-rule_then start i j r rs first second given m h =
-    let n : Machine = (rules r m).machine in
-    gives_more (given + i + j) (given + (i + j)) start (for_each rules rs n).machine (omega arith) (second (given + i) n (first given m h))
+unfolding for_each
+rule_then {start} {i} {j} r rs first second =
+    record { gives = λ given m h. gives_more (omega arith) (second.gives (given + i) (rules r m).machine (first.gives given m h)) }
 
 -- addresses that are apart and of a kind are promoted
 kind-rule : (start : Machine) (kind : Addr → Bool → Bool) (addrs : List Addr) (given : ℕ) (m : Machine) → ArePeersApart start.peers → Gives given start m →
@@ -93,52 +89,44 @@ kind-rule : (start : Machine) (kind : Addr → Bool → Bool) (addrs : List Addr
     Gives (given + number_of kind start.peers) start (for_each carries_out (map Promote addrs) m).machine
 kind-rule start kind addrs given m peers h apart found =
     let n : Machine = (for_each carries_out (map Promote addrs) m).machine in
-    let known : AllByRecursion (IsFoundWith kind start.peers) addrs = all-weaker (IsFoundWith kind m.peers) (IsFoundWith kind start.peers)
-    (λ a x. record { big = x.big; found = h.kept peers a x.big x.found; passes = x.passes }) addrs found in
-    gives_then given (number_of kind start.peers) start m n h
-    (gives_more (length addrs) (number_of kind start.peers) m n (distinct-number kind addrs start.peers apart known) (promotes-gives addrs m))
+    let known : AllByRecursion (IsFoundWith kind start.peers) addrs = weaker addrs (λ a x. record { big = x.big; found = h.kept a x.big x.found; passes = x.passes }) found in
+    gives_then h (gives_more (distinct-number kind addrs start.peers apart known) (promotes-gives addrs m))
 
 g4-rule : (start : Machine) (word : ℕ) → ArePeersApart start.peers → AreApart (members_of start.groups) →
     DoesGive start (number_of (is_local_one start.groups) start.peers) (rules (λ m. g4_orders (view_of word m) m.peers m.groups))
-unfolding DoesGive
-g4-rule start word peers members given m h =
-    let kind : Addr → Bool → Bool = is_local_one start.groups in
-    let is_small : Addr → Bool → Bool = λ a big. not big in
+g4-rule start word peers members = record { gives = λ given m h.
     let here : ArePeersApart m.peers = h.apart peers in
-    let groups : AreApart (members_of m.groups) = subst (λ gs. AreApart (members_of gs)) (sym h.groups) members in
     let eligible : Peer → Bool = is_eligible m.now (map link_of m.connections) in
     let number : Group → ℕ = λ g. g.warm - members_count g (λ p. is_established p.temp || is_pending_link (map link_of m.connections) p.addr) m.peers in
     let pick : Group → List Addr = picks_in word number eligible m.peers in
     let picks : PicksMembers pick = group_picks word number eligible m.peers here in
-    subst (λ orders. Gives (given + number_of kind start.peers) start (for_each carries_out orders m).machine) (sym (map-groups Promote pick m.groups))
-    (kind-rule start kind (flat_map pick m.groups) given m peers h (groups_picks-apart pick m.groups picks groups)
-    (all-both (λ a. is_listed a (members_of m.groups) ≡ true) (IsFoundWith is_small m.peers) (IsFoundWith kind m.peers)
-    (λ a listed x. record {
+    let small : AllByRecursion (IsFoundWith (λ a big. not big) m.peers) (flat_map pick m.groups) = groups_picks-all (IsFoundWith (λ a big. not big) m.peers) pick m.groups
+    (λ g. chosen-found (λ a big. not big) false word (number g) (is_member_and g eligible) m.peers here (λ p passes. (and_parts (not p.big) (is_member_and g eligible p) passes).0)) in
+    subst (λ orders. Gives (given + number_of (is_local_one start.groups) start.peers) start (for_each carries_out orders m).machine) (sym (map-groups Promote pick m.groups))
+    (kind-rule start (is_local_one start.groups) (flat_map pick m.groups) given m peers h
+    (groups_picks-apart pick m.groups picks (subst (λ gs. AreApart (members_of gs)) (sym h.groups) members))
+    (weaker-both (flat_map pick m.groups) (λ a listed x. record {
       big = x.big;
       found = x.found;
       passes = and_from (not x.big) (is_listed a (members_of start.groups)) x.passes (ap (λ gs. is_listed a (members_of gs)) (sym h.groups) ∙ listed);
-    }) (flat_map pick m.groups) (picks-listed pick m.groups picks)
-    (groups_picks-all (IsFoundWith is_small m.peers) pick m.groups (λ g. chosen-found is_small false word (number g) (is_member_and g eligible) m.peers here
-    (λ p passes. (and_parts (not p.big) (is_member_and g eligible p) passes).0)))))
+    }) (picks-listed pick m.groups picks) small)) }
 
 -- a rule by the targets
-class-rule : (start : Machine) (kind : Addr → Bool → Bool) (big : Bool) (word number : ℕ) (test : Peer → Bool) (given : ℕ) (m : Machine) →
-    ArePeersApart start.peers → Gives given start m → ((p : Peer) → (is_of big p && test p) ≡ true → kind p.addr p.big ≡ true) →
-    Gives (given + number_of kind start.peers) start (for_each carries_out (orders_for big word Promote number test m.peers) m).machine
-class-rule start kind big word number test given m peers h gives =
-    kind-rule start kind (chosen big word number test m.peers) given m peers h (chosen-apart big word number test m.peers (h.apart peers))
-    (chosen-found kind big word number test m.peers (h.apart peers) gives)
+class-rule : (start : Machine) (kind : Addr → Bool → Bool) (big : Bool) (word : ℕ) (number : Machine → ℕ) (test : Machine → Peer → Bool) → ArePeersApart start.peers →
+    ((m : Machine) (p : Peer) → m.groups ≡ start.groups → (is_of big p && test m p) ≡ true → kind p.addr p.big ≡ true) →
+    DoesGive start (number_of kind start.peers) (rules (λ m. orders_for big word Promote (number m) (test m) m.peers))
+class-rule start kind big word number test peers gives = record { gives = λ given m h.
+    kind-rule start kind (chosen big word (number m) (test m) m.peers) given m peers h (chosen-apart big word (number m) (test m) m.peers (h.apart peers))
+    (chosen-found kind big word (number m) (test m) m.peers (h.apart peers) (λ p passes. gives m p h.groups passes)) }
 
 g5-rule : (start : Machine) (word : ℕ) → ArePeersApart start.peers →
     DoesGive start (number_of (is_other_one start.groups) start.peers) (rules (λ m. g5_orders (view_of word m) m.peers m.groups))
-unfolding DoesGive
-g5-rule start word peers given m h = class-rule start (is_other_one start.groups) false word _ _ given m peers h
-    (λ p passes. grind (arith, passes, h.groups, not_local-no_member p.addr start.groups))
+g5-rule start word peers = class-rule start (is_other_one start.groups) false word _ _ peers
+    (λ m p same passes. grind (arith, passes, same, not_local-no_member p.addr start.groups))
 
 b5-rule : (start : Machine) (word : ℕ) → ArePeersApart start.peers →
     DoesGive start (number_of is_big_one start.peers) (rules (λ m. big_orders B5 (view_of word m) m.peers))
-unfolding DoesGive
-b5-rule start word peers given m h = class-rule start is_big_one true word _ _ given m peers h (λ p passes. grind (arith, passes))
+b5-rule start word peers = class-rule start is_big_one true word _ _ peers (λ m p same passes. grind (arith, passes))
 
 -- orders by the valencies that give no id
 groups-still : (order : Addr → Order) → ((addr : Addr) → ids_of (order addr) ≡ 0) → (word : ℕ) (number : Group → ℕ) (test : Peer → Bool) (m : Machine) →
@@ -164,31 +152,24 @@ big_ids start = 0 + (number_of is_big_one start.peers + (0 + (0 + (0 + 0))))
 ordinary-give : (start : Machine) (word : ℕ) → ArePeersApart start.peers → AreApart (members_of start.groups) →
     DoesGive start (ordinary_ids start) (for_each rules (ordinary_rules word))
 ordinary-give start word peers members =
-    rule_then start _ _ _ _ (still-rule start _ (λ m. still-gives (λ addr. Ask addr _) (λ addr. refl) _ m))
-    (rule_then start _ _ _ _ (still-rule start _ (λ m. still-gives Forget (λ addr. refl) _ m))
-    (rule_then start _ _ _ _ (g4-rule start word peers members)
-    (rule_then start _ _ _ _ (g5-rule start word peers)
-    (rule_then start _ _ _ _ (still-rule start _ (λ m. still-gives Release (λ addr. refl) _ m))
-    (rule_then start _ _ _ _ (still-rule start _ (λ m. groups-still Activate (λ addr. refl) word _ _ m))
-    (rule_then start _ _ _ _ (still-rule start _ (λ m. still-gives Activate (λ addr. refl) _ m))
-    (rule_then start _ _ _ _ (still-rule start _ (g9-gives word)) (no_rules start))))))))
+    rule_then _ _ (still-rule (λ m. still-gives (λ addr. Ask addr _) (λ addr. refl) _ m)) (rule_then _ _ (still-rule (λ m. still-gives Forget (λ addr. refl) _ m))
+    (rule_then _ _ (g4-rule start word peers members) (rule_then _ _ (g5-rule start word peers)
+    (rule_then _ _ (still-rule (λ m. still-gives Release (λ addr. refl) _ m)) (rule_then _ _ (still-rule (λ m. groups-still Activate (λ addr. refl) word _ _ m))
+    (rule_then _ _ (still-rule (λ m. still-gives Activate (λ addr. refl) _ m)) (rule_then _ _ (still-rule (g9-gives word)) (no_rules start))))))))
 
 big-give : (start : Machine) (word : ℕ) → ArePeersApart start.peers → DoesGive start (big_ids start) (for_each rules (big_rules word))
 big-give start word peers =
-    rule_then start _ _ _ _ (still-rule start _ (λ m. still-gives Forget (λ addr. refl) _ m))
-    (rule_then start _ _ _ _ (b5-rule start word peers)
-    (rule_then start _ _ _ _ (still-rule start _ (λ m. still-gives Release (λ addr. refl) _ m))
-    (rule_then start _ _ _ _ (still-rule start _ (λ m. still-gives Activate (λ addr. refl) _ m))
-    (rule_then start _ _ _ _ (still-rule start _ (λ m. still-gives Deactivate (λ addr. refl) _ m)) (no_rules start)))))
+    rule_then _ _ (still-rule (λ m. still-gives Forget (λ addr. refl) _ m)) (rule_then _ _ (b5-rule start word peers)
+    (rule_then _ _ (still-rule (λ m. still-gives Release (λ addr. refl) _ m)) (rule_then _ _ (still-rule (λ m. still-gives Activate (λ addr. refl) _ m))
+    (rule_then _ _ (still-rule (λ m. still-gives Deactivate (λ addr. refl) _ m)) (no_rules start)))))
 
 -- from a record on in which all other rules start
 pub rules-give : (word : ℕ) (m : Machine) → ArePeersApart m.peers → AreApart (members_of m.groups) →
     Gains (length m.peers) (numbers_of m) (numbers_of (for_each rules (big_rules word) (for_each rules (ordinary_rules word) m).machine).machine)
-unfolding DoesGive
 rules-give word m peers members =
     let n : Machine = (for_each rules (ordinary_rules word) m).machine in
-    let ordinary : Gives (0 + ordinary_ids m) m n = ordinary-give m word peers members 0 m (gives_nothing m) in
-    let all = big-give m word peers (0 + ordinary_ids m) n ordinary in
+    let ordinary : Gives (0 + ordinary_ids m) m n = (ordinary-give m word peers members).gives 0 m (gives_nothing m) in
+    let all = (big-give m word peers).gives (0 + ordinary_ids m) n ordinary in
     record { id = omega (arith, all.numbers.id, kinds-number m.groups m.peers); job = all.numbers.job }
 
 -- each peer is dialed once at most, and the provider asked once

@@ -1,5 +1,5 @@
 -- A move at one address raises what is counted by one at most.
-use Rattle.std.proofs.Common.{ℕ, zero, suc, ◌+◌, ◌%◌, ◌≤◌, ◌≡◌, Bool, true, false, cond, ◌&&◌, ◌||◌, if◌then◌else◌, set, List, [], ◌∷◌, ◌++◌, find, count_by, Option, Some, None, refl, sym, ap, ◌∙◌, subst, arith}
+use Rattle.std.proofs.Common.{ℕ, zero, suc, ◌+◌, ◌%◌, ◌≤◌, ◌≡◌, Bool, true, false, cond, ◌&&◌, if◌then◌else◌, set, List, [], ◌∷◌, ◌++◌, find, count_by, Option, Some, refl, sym, ap, ◌∙◌, subst, arith}
 use Rattle.laws.proofs.Words.{both_ways, cond_both, and_parts}
 use Rattle.laws.specs.Words.{list_any, AllByRecursion, option_map, same_address, Addr, Group, Peer, Warm, dialing, acquired, is_live, is_live_at, is_acquirable, has_address, is_of, with_peer, is_listed, Machine, Entry, fresh_entry, live_entry_at, owing, turns_at, peer_at, with_entry, acquire, dial, promoted_at, promote, is_used_at, activates, activate, on_entry, peer_changes, Effect, on_used}
 use Rattle.peer_book.specs.Book.{peer_at as peer_in}
@@ -8,7 +8,7 @@ use Rattle.laws.specs.Steady.{ArePeersApart, IsOrdered}
 use Rattle.laws.proofs.Addresses.{same_address-true}
 use Rattle.laws.proofs.Each.{weaker, count-cons}
 use Rattle.laws.proofs.Entries.{TurnsInto, turned-connections}
-use Rattle.laws.proofs.Lists.{all-true, all-weaker, StandsAt, stands_before, FoundIn, find_some}
+use Rattle.laws.proofs.Lists.{all-true, StandsAt, stands_before, FoundIn, find_some}
 use Rattle.laws.proofs.PeersApart.{same_turned}
 use Rattle.laws.proofs.Cases.{by_bool, by_option}
 
@@ -56,11 +56,6 @@ with_peer-same_but new p (q ∷ ps) apart found class = by_bool (has_address new
 
 abbrev pub class_at : Addr → List Peer → Option Bool
 class_at addr ps = option_map (λ p. p.big) (peer_in addr ps)
-
-pub same_but-class : (addr b : Addr) (ps qs : List Peer) → AreSameBut addr ps qs → class_at b qs ≡ class_at b ps
-same_but-class addr b [] [] h = refl
-same_but-class addr b (p ∷ ps) (q ∷ qs) h = grind (arith, h.0.same_addr, h.0.same_class, same_but-class addr b ps qs h.1)
-same_but-class addr b ps qs h = elim h [ ]
 
 -- ---- what is counted
 
