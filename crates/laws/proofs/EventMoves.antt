@@ -9,12 +9,13 @@ use Rattle.laws.specs.Telling.{IsTold}
 use Rattle.laws.specs.Steady.{IsSteady, IsOrdered}
 use Rattle.laws.proofs.Admitted.{pending-live}
 use Rattle.laws.proofs.Clock.{fire_due-obeys}
-use Rattle.laws.proofs.Events.{admitted_entry, at_moment, at_moment-orderly}
+use Rattle.laws.proofs.Events.{at_moment, at_moment-orderly}
 use Rattle.laws.proofs.Governing.{govern-trimmed}
 use Rattle.laws.proofs.KnownWanted.{bigs-within}
 use Rattle.laws.proofs.Failures.{vanishes-failed}
 use Rattle.laws.proofs.Lawful.{Accounts, accounts_come, accounts_gone, Obeys, obeys_then, obeys_nothing, IsQuiet, quiet-lawful, quiet-obeys, tells-quiet, lost-quiet, comes-providing, shared-accounts, ending-obeys, on_stands, turned_then-obeys, as_move-obeys, IsAllowed, Within, allowed_within}
 use Rattle.laws.proofs.Lists.{StandsAt, find_some, all-both}
+use Rattle.laws.proofs.Newcomers.{admitted_entry}
 use Rattle.laws.proofs.Shapes.{dialing-unnegotiated}
 use Rattle.laws.proofs.Streams.{bytes_come_in-trimmed}
 use Rattle.laws.proofs.Telling.{told_then, told_move}

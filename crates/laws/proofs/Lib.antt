@@ -80,5 +80,6 @@ mod Walk
 mod Cases
 mod Each
 mod Books
+mod Newcomers
 pub mod Words
 mod Items

@@ -12,6 +12,7 @@ use Rattle.laws.proofs.Keeping.{Keeps}
 use Rattle.laws.proofs.Lawful.{Accounts, Obeys, IsAllowed, as_move-obeys, promoted-obeys}
 use Rattle.laws.proofs.Lists.{StandsAt, FoundIn, find_some, find_none}
 use Rattle.laws.proofs.Owing.{nothing-owing}
+use Rattle.laws.proofs.Newcomers.{comes-keeps}
 use Rattle.laws.proofs.Shapes.{dialing-shaped, can_acquire}
 use Rattle.laws.proofs.Orders.{Carries}
 use Rattle.laws.proofs.PeersApart.{same_turned, found-other}
@@ -26,50 +27,13 @@ use Rattle.laws.specs.Ordered.{is_any}
 
 -- ---- a dial
 
-none_live : (addr : Addr) (m : Machine) → live_entry_at addr m ≡ None → All (λ e. DifferInAddress e (fresh_entry (dialing m.next_id addr))) m.connections
-none_live addr m none = All-weaker (λ e. is_live_at addr e.facts ≡ false) (λ e. DifferInAddress e (fresh_entry (dialing m.next_id addr)))
-    (λ e other e_live new_live same. both_ways (is_live_at addr e.facts) other
-    (and_from (same_address e.facts.addr addr) (is_live e.facts)
-    (subst (λ a. same_address e.facts.addr a ≡ true) same (same_address-self e.facts.addr)) e_live))
-    m.connections (find_none (λ e. is_live_at addr e.facts) m.connections none)
-
 dial-keeps : (addr : Addr) (m : Machine) → IsOrdered m → live_entry_at addr m ≡ None → IsReady m.now (peer_at addr m) → Keeps 0 m (dial addr m).machine
 dial-keeps addr m h none ready =
-    let new : Entry = fresh_entry (dialing m.next_id addr) in
-    let n : Machine = with_new new m in
-    let counts : sum_by counted_of n.connections ≡ sum_by counted_of m.connections + 0 = sum_by_push counted_of m.connections new in
-    let lates : sum_by (late_of m.now) n.connections ≡ sum_by (late_of m.now) m.connections + 0 = sum_by_push (late_of m.now) m.connections new in
-    let counted_before = counted_in-sum m in
-    let counted_after = counted_in-sum n in
-    let late_before = late_in-sum m in
-    let late_after = late_in-sum n in
-    record {
-      ordered = assumption (
-        come-orderly m new h.orderly refl (none_live addr m none),
-        All-push (λ e. IsShaped e.facts) m.connections new h.formed.shaped (dialing-shaped m.next_id addr),
-        All-push IsOwing m.connections new h.formed.owing (nothing-owing new refl),
-        All-push (λ e. same_address e.facts.addr m.settings.own ≡ false) m.connections new h.formed.other_connections (known-other (peer_at addr m) refl ready),
-      );
-      settings = refl;
-      now = refl;
-      counted = omega (arith, counts, counted_before, counted_after);
-      late = omega (arith, lates, late_before, late_after);
-      classes = λ locals. locals;
-      ties = come-ties m new refl none (λ tie. on_its_way (peer_at addr m) ready tie);
-    }
+    comes-keeps 0 (dialing m.next_id addr) m h none refl refl refl (dialing-shaped m.next_id addr) (known-other (peer_at addr m) refl ready) (λ pending. ready) (omega arith) refl
   where
     known-other : (o : Option Peer) → peer_at addr m ≡ o → IsReady m.now o → same_address addr m.settings.own ≡ false
     known-other None is ready = elim ready [ ]
     known-other (Some p) is ready = found-other m.settings.own addr m.peers p h.formed.other_peers is
-
-    on_its_way : (o : Option Peer) → IsReady m.now o → TiedBy m.now o None → TiedBy m.now o (Some (fresh_entry (dialing m.next_id addr)))
-    on_its_way None ready tie = elim ready [ ]
-    on_its_way (Some p) ready tie = record {
-      established = tie;
-      in_use = λ local. absurd (false≢true local);
-      on_its_way = λ pending. ready;
-      asked = λ asked. absurd (false≢true asked);
-    }
 
 -- ---- what a promotion tells
 
