@@ -1,17 +1,13 @@
 -- Each event keeps what is sound.
-use Rattle.std.proofs.Common.{ℕ, ◌+◌, ◌<◌, ◌≤◌, ◌≡◌, ◌≢◌, false, remove, None, All, IsTrue, nat_le, refl, sym, ap, ◌∙◌, subst, arith, leb-false}
-use Rattle.laws.proofs.Words.{cond_both, and_parts, lt-leb, All-weaker, count_none, recursion_from_All}
-use Rattle.laws.specs.Words.{same_address, Overwritten, Addr, accepted, is_live, is_live_at, Machine, Entry, fresh_entry, counted_in, live_entry_at, then_do, without_entry, ending, deadlines, fire_all, clock_shows, admitted, peer_connects, nothing_more}
-use Rattle.laws.specs.Laws.{DifferInAddress, WithinHardLimit, DeadlinesAhead}
+use Rattle.std.proofs.Common.{ℕ, ◌<◌, ◌≡◌, false, nat_le, refl, ap, arith, leb-false}
+use Rattle.laws.proofs.Words.{cond_both, lt-leb, All-weaker, count_none, recursion_from_All}
+use Rattle.laws.specs.Words.{Machine, deadlines, fire_all, clock_shows, nothing_more}
+use Rattle.laws.specs.Laws.{WithinHardLimit, DeadlinesAhead}
 use Rattle.laws.specs.Sound.{IsOrderly, IsSound}
-use Rattle.laws.proofs.Addresses.{same_address-self, same_address-true}
-use Rattle.laws.proofs.Lists.{FoundIn, find_some, find_none, All-others, count_by-none}
-use Rattle.laws.proofs.Settings.{handshake-positive}
-use Rattle.laws.proofs.Counts.{is_late, late_of, late_in}
-use Rattle.laws.proofs.Entries.{with_new, come-orderly, gone-connections}
-use Rattle.laws.proofs.Moves.{Lowers, ending-lowers, come-counts}
+use Rattle.laws.proofs.Lists.{count_by-none}
+use Rattle.laws.proofs.Counts.{is_late, late_in}
+use Rattle.laws.proofs.Moves.{Lowers}
 use Rattle.laws.proofs.Firing.{fire_all-lowers, fire_all-none_late}
-use Rattle.laws.proofs.Connects.{connects-cases}
 
 -- no deadline is late exactly where every deadline is above now
 pub ahead-none_late : (m : Machine) → DeadlinesAhead m → late_in m ≡ 0

@@ -5,7 +5,7 @@ use Rattle.laws.specs.Acts.{orders_of}
 use Rattle.laws.specs.AtMoves.{IsLawful}
 use Rattle.laws.specs.Steady.{IsOrdered}
 use Rattle.laws.proofs.Keeping.{Keeps, keeps_nothing, elsewhere-keeps}
-use Rattle.laws.proofs.Lawful.{Accounts, IsQuiet, quiet-obeys, elsewhere-quiet, tells-quiet}
+use Rattle.laws.proofs.Lawful.{IsQuiet, quiet-obeys, elsewhere-quiet, tells-quiet}
 use Rattle.laws.proofs.Ordering.{AreRight, ordinary-due, big-due, Done, DoesRight}
 use Rattle.laws.proofs.Trims.{Trimmed, keeps-trimmed, nothing-trimmed, trimmed_then, trimmed-within}
 
@@ -45,7 +45,8 @@ asks_roots-quiet m =
 -- what the governor does, and each of its orders
 pub record Governs (word : ℕ) (m : Machine) : Type 0 where
   pub trimmed : Trimmed IsLawful m (govern word m)
-  pub asked : Accounts m (asks_roots m)
+  pub asked : Trimmed IsLawful m (asks_roots m)
+  pub ruled : Trimmed IsLawful (asks_roots m).machine (for_each rules (ordinary_rules word) (asks_roots m).machine)
   pub ordinary : AreRight (orders_of (ordinary_rules word) (asks_roots m).machine) (asks_roots m).machine
   pub big : AreRight (orders_of (big_rules word) (for_each rules (ordinary_rules word) (asks_roots m).machine).machine)
       (for_each rules (ordinary_rules word) (asks_roots m).machine).machine
@@ -63,7 +64,8 @@ governs word m h within =
     record {
       trimmed = trimmed_then IsLawful m first (λ m. then_do (for_each rules (ordinary_rules word) m) (for_each rules (big_rules word))) one
           (trimmed_then IsLawful first.machine second (for_each rules (big_rules word)) two.trimmed three.trimmed);
-      asked = one.accounted;
+      asked = one;
+      ruled = two.trimmed;
       ordinary = two.right;
       big = three.right;
     }

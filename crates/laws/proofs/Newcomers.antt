@@ -1,5 +1,5 @@
 -- A connection comes: one that this node dials, or one that a peer opens.
-use Rattle.std.proofs.Common.{ℕ, ◌+◌, ◌≤◌, ◌≡◌, true, false, nat_le, [], ◌∷◌, All, Option, Some, None, refl, sym, ◌∙◌, arith}
+use Rattle.std.proofs.Common.{ℕ, ◌+◌, ◌≤◌, ◌≡◌, true, false, nat_le, All, Option, Some, None, refl, sym, ◌∙◌, arith}
 use Rattle.laws.proofs.Words.{both_ways, false≢true, false_from_ne_true, All-push, All-weaker}
 use Rattle.laws.specs.Words.{same_address, Addr, Facts, Peer, accepted, is_live, is_live_at, is_pending, Machine, Entry, fresh_entry, live_entry_at, peer_at, admitted}
 use Rattle.laws.specs.AtMoves.{IsReady}

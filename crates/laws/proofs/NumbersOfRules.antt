@@ -1,7 +1,7 @@
 -- How many ids the rules give out: distinct addresses of the book are no more than its peers, so each peer is dialed once at most.
 use Rattle.std.proofs.Common.{ℕ, ◌+◌, ◌≤◌, ◌≡◌, Bool, true, false, cond, not, ◌&&◌, List, [], ◌∷◌, length, count_by, Some, refl, ap, ◌∙◌, arith, ◌-◌, ◌||◌, ◌++◌, map, flat_map, sym, subst}
 use Rattle.laws.proofs.Words.{sum_by-cons, sum_by-filter_both, cond_both, and_parts, and_from}
-use Rattle.laws.specs.Words.{AllByRecursion, option_map, has_address, without_peer, same_address, Addr, Group, Peer, is_of, is_listed, members_of, big_orders, is_eligible, orders_for, is_member_and, members_count, g4_orders, g5_orders, g9_orders, B5, Order, Ask, Forget, Promote, Release, Activate, Deactivate, AskRoots, is_established, may_ask, asked, Machine, Effect, nothing_more, tells, then_do, for_each, link_of, view_of, carries_out, ordinary_rules, big_rules, rules, govern}
+use Rattle.laws.specs.Words.{AllByRecursion, option_map, has_address, without_peer, Addr, Group, Peer, is_of, is_listed, members_of, big_orders, is_eligible, orders_for, is_member_and, members_count, g4_orders, g5_orders, g9_orders, B5, Order, Ask, Forget, Promote, Release, Activate, Deactivate, AskRoots, is_established, may_ask, asked, Machine, Effect, nothing_more, tells, then_do, for_each, link_of, view_of, carries_out, ordinary_rules, big_rules, rules, govern}
 use Rattle.laws.specs.Steady.{ArePeersApart, AreApart, IsFormed, GivesFew}
 use Rattle.laws.proofs.Chosen.{chosen, chosen-all, chosen-apart, PicksMembers, picks-listed, groups_picks-apart, groups_picks-all, map-groups, picks_in, group_picks, hot_free, hot_members, g9-same}
 use Rattle.laws.proofs.Each.{weaker, weaker-both, count-cons}
@@ -55,8 +55,13 @@ is_big_one a big = big
 pub kinds-number : (groups : List Group) (ps : List Peer) →
     number_of (is_local_one groups) ps + number_of (is_other_one groups) ps + number_of is_big_one ps ≤ length ps
 kinds-number groups [] = omega arith
-kinds-number groups (p ∷ ps) = grind (arith, kinds-number groups ps, count-cons (λ x. is_local_one groups x.addr x.big) p ps,
-    count-cons (λ x. is_other_one groups x.addr x.big) p ps, count-cons (λ x. x.big) p ps)
+kinds-number groups (p ∷ ps) = grind (
+  arith,
+  kinds-number groups ps,
+  count-cons (λ x. is_local_one groups x.addr x.big) p ps,
+  count-cons (λ x. is_other_one groups x.addr x.big) p ps,
+  count-cons (λ x. x.big) p ps,
+)
 
 -- whoever is picked is of a kind where the candidates are
 pub chosen-found : (kind : Addr → Bool → Bool) (big : Bool) (word number : ℕ) (test : Peer → Bool) (peers : List Peer) → ArePeersApart peers →
@@ -94,30 +99,34 @@ kind-rule start kind addrs given m peers h apart found =
 
 g4-rule : (start : Machine) (word : ℕ) → ArePeersApart start.peers → AreApart (members_of start.groups) →
     DoesGive start (number_of (is_local_one start.groups) start.peers) (rules (λ m. g4_orders (view_of word m) m.peers m.groups))
-g4-rule start word peers members = record { gives = λ given m h.
-    let here : ArePeersApart m.peers = h.apart peers in
-    let eligible : Peer → Bool = is_eligible m.now (map link_of m.connections) in
-    let number : Group → ℕ = λ g. g.warm - members_count g (λ p. is_established p.temp || is_pending_link (map link_of m.connections) p.addr) m.peers in
-    let pick : Group → List Addr = picks_in word number eligible m.peers in
-    let picks : PicksMembers pick = group_picks word number eligible m.peers here in
-    let small : AllByRecursion (IsFoundWith (λ a big. not big) m.peers) (flat_map pick m.groups) = groups_picks-all (IsFoundWith (λ a big. not big) m.peers) pick m.groups
-    (λ g. chosen-found (λ a big. not big) false word (number g) (is_member_and g eligible) m.peers here (λ p passes. (and_parts (not p.big) (is_member_and g eligible p) passes).0)) in
-    subst (λ orders. Gives (given + number_of (is_local_one start.groups) start.peers) start (for_each carries_out orders m).machine) (sym (map-groups Promote pick m.groups))
-    (kind-rule start (is_local_one start.groups) (flat_map pick m.groups) given m peers h
-    (groups_picks-apart pick m.groups picks (subst (λ gs. AreApart (members_of gs)) (sym h.groups) members))
-    (weaker-both (flat_map pick m.groups) (λ a listed x. record {
-      big = x.big;
-      found = x.found;
-      passes = and_from (not x.big) (is_listed a (members_of start.groups)) x.passes (ap (λ gs. is_listed a (members_of gs)) (sym h.groups) ∙ listed);
-    }) (picks-listed pick m.groups picks) small)) }
+g4-rule start word peers members = record {
+  gives = λ given m h.
+      let here : ArePeersApart m.peers = h.apart peers in
+      let eligible : Peer → Bool = is_eligible m.now (map link_of m.connections) in
+      let number : Group → ℕ = λ g. g.warm - members_count g (λ p. is_established p.temp || is_pending_link (map link_of m.connections) p.addr) m.peers in
+      let pick : Group → List Addr = picks_in word number eligible m.peers in
+      let picks : PicksMembers pick = group_picks word number eligible m.peers here in
+      let small : AllByRecursion (IsFoundWith (λ a big. not big) m.peers) (flat_map pick m.groups) = groups_picks-all (IsFoundWith (λ a big. not big) m.peers) pick m.groups
+      (λ g. chosen-found (λ a big. not big) false word (number g) (is_member_and g eligible) m.peers here (λ p passes. (and_parts (not p.big) (is_member_and g eligible p) passes).0)) in
+      subst (λ orders. Gives (given + number_of (is_local_one start.groups) start.peers) start (for_each carries_out orders m).machine) (sym (map-groups Promote pick m.groups))
+      (kind-rule start (is_local_one start.groups) (flat_map pick m.groups) given m peers h
+      (groups_picks-apart pick m.groups picks (subst (λ gs. AreApart (members_of gs)) (sym h.groups) members))
+      (weaker-both (flat_map pick m.groups) (λ a listed x. record {
+        big = x.big;
+        found = x.found;
+        passes = and_from (not x.big) (is_listed a (members_of start.groups)) x.passes (ap (λ gs. is_listed a (members_of gs)) (sym h.groups) ∙ listed);
+      }) (picks-listed pick m.groups picks) small));
+}
 
 -- a rule by the targets
 class-rule : (start : Machine) (kind : Addr → Bool → Bool) (big : Bool) (word : ℕ) (number : Machine → ℕ) (test : Machine → Peer → Bool) → ArePeersApart start.peers →
     ((m : Machine) (p : Peer) → m.groups ≡ start.groups → (is_of big p && test m p) ≡ true → kind p.addr p.big ≡ true) →
     DoesGive start (number_of kind start.peers) (rules (λ m. orders_for big word Promote (number m) (test m) m.peers))
-class-rule start kind big word number test peers gives = record { gives = λ given m h.
-    kind-rule start kind (chosen big word (number m) (test m) m.peers) given m peers h (chosen-apart big word (number m) (test m) m.peers (h.apart peers))
-    (chosen-found kind big word (number m) (test m) m.peers (h.apart peers) (λ p passes. gives m p h.groups passes)) }
+class-rule start kind big word number test peers gives = record {
+  gives = λ given m h.
+      kind-rule start kind (chosen big word (number m) (test m) m.peers) given m peers h (chosen-apart big word (number m) (test m) m.peers (h.apart peers))
+      (chosen-found kind big word (number m) (test m) m.peers (h.apart peers) (λ p passes. gives m p h.groups passes));
+}
 
 g5-rule : (start : Machine) (word : ℕ) → ArePeersApart start.peers →
     DoesGive start (number_of (is_other_one start.groups) start.peers) (rules (λ m. g5_orders (view_of word m) m.peers m.groups))

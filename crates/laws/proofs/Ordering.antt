@@ -15,7 +15,7 @@ use Rattle.laws.proofs.Chosen.{chosen, chosen-all, chosen-apart, PicksMembers, p
 use Rattle.laws.proofs.Each.{weaker, weaker-both, count-cons, count-append}
 use Rattle.laws.proofs.Falls.{all-back, apart-same, found-same, known-same, ChangesAt-back, taken-count, ask-changes, deactivate-changes, release-leaves}
 use Rattle.laws.proofs.GroupsApart.{append-apart}
-use Rattle.laws.proofs.Lawful.{Accounts, IsAllowed, Within, allowed_within}
+use Rattle.laws.proofs.Lawful.{IsAllowed, Within, allowed_within}
 use Rattle.laws.proofs.Lists.{all-appended}
 use Rattle.laws.proofs.Locals.{not_local-no_member}
 use Rattle.laws.proofs.Orders.{IsCold, ask-carried, forget-carried, release-carried, activate-carried, deactivate-carried}
@@ -31,11 +31,11 @@ use Rattle.laws.proofs.WholeMoves.{IsWarm}
 
 -- ---- one order after the other
 
--- each order is due, and accounts for what it does, on a machine that is in order
+-- each order is due, and keeps the laws, on a machine that is in order
 pub record IsRight (order : Order) (m : Machine) : Type 0 where
   pub ordered : IsOrdered m
   pub due : IsDueOrder order m
-  pub accounts : Accounts m (carries_out order m)
+  pub trimmed : Trimmed IsLawful m (carries_out order m)
 
 abbrev pub AreRight : List Order → Machine → Type 0
 AreRight [] m = Unit {0}
@@ -115,7 +115,7 @@ module _ {Place : Set → Addr → Peer → Type 0} {Fits : ℕ → Peer → Typ
       (weaker-both addrs (λ b other here. still-may a b m h other here) apart.0 may.1) (s.left a addrs m h may.0 left) in
       record {
         trimmed = trimmed_then IsLawful m effect (for_each carries_out (map order addrs)) first rest.trimmed;
-        right = (record { ordered = h; due = s.due a addrs m h may.0 left; accounts = first.accounted }, rest.right);
+        right = (record { ordered = h; due = s.due a addrs m h may.0 left; trimmed = first }, rest.right);
       }
 
 -- where no connection of an address passes a test, none that is found there does

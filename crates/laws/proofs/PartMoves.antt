@@ -1,9 +1,9 @@
 -- Each part of an event is lawful.
 use Rattle.std.proofs.Common.{ℕ, ◌≡◌, ◌≤◌, Bool, true, false, ◌||◌, ◌==◌, List, [], ◌∷◌, ◌++◌, Option, sym, subst, arith, nat_lt}
 use Rattle.laws.proofs.Words.{false≢true, or_left, list_any-append}
-use Rattle.laws.specs.Words.{AllByRecursion, Addr, Event, Effect, for_each, nothing_more, then_do, Machine, Entry, entry_at}
+use Rattle.laws.specs.Words.{AllByRecursion, Addr, Event, Effect, for_each, then_do, Machine, Entry, entry_at}
 use Rattle.laws.specs.Acts.{Act, ends_dial, is_closed, does, parts_from}
-use Rattle.laws.specs.AtMoves.{is_negotiated_entry, is_negotiated_at, is_ended_in, is_closed_by, is_up, is_hot_or_asked, is_known, promotes, activates, is_shared_in, is_provided_by, shares}
+use Rattle.laws.specs.AtMoves.{IsLawful, is_negotiated_entry, is_negotiated_at, is_ended_in, is_closed_by, is_up, is_hot_or_asked, is_known, promotes, activates, is_shared_in, is_provided_by, shares}
 use Rattle.laws.specs.OpenEnds.{is_open_entry, is_open_at, is_dialing_entry, goes_by_itself}
 use Rattle.laws.specs.CarriedOut.{IsDoneByOrder}
 use Rattle.laws.specs.Parts.{IsNext, IsDone, EndsOnce, IsAccounted, IsLawfulPart, RisesBy, Arrives}
@@ -11,7 +11,10 @@ use Rattle.laws.specs.Sends.{Speaks}
 use Rattle.laws.specs.Stages.{stage_of, stage_at}
 use Rattle.laws.specs.Telling.{IsTold}
 use Rattle.laws.proofs.CarriedOut.{treats-book, pauses-right}
-use Rattle.laws.proofs.Lawful.{Accounts, IsProviding, obeys_nothing}
+use Rattle.laws.proofs.Lawful.{Obeys, IsProviding, obeys_nothing, quiet-lawful}
+use Rattle.laws.proofs.Lists.{all-appended}
+use Rattle.laws.proofs.Trims.{Trimmed}
+use Rattle.laws.specs.Steady.{IsTied}
 use Rattle.laws.proofs.Admitted.{admits-right}
 use Rattle.laws.proofs.BackOff.{treats, forgives}
 use Rattle.laws.proofs.Begun.{over-after, waits-begin}
@@ -85,12 +88,13 @@ ends-once event m effect told accounted cid before =
 
 -- ---- what a part keeps
 
--- what a part tells, and who is ended and comes up by it; and so what follows of several parts
+-- what a part tells, who is ended and comes up by it, and that its moves keep the laws; and so what follows of several parts
 pub record Tells (event : Event) (m : Machine) (effect : Effect) : Type 0 where
   pub told : IsTold m effect
   pub promotions : RisesBy is_up promotes m effect
   pub activations : RisesBy is_hot_or_asked activates m effect
   pub arrivals : Arrives event m effect
+  pub lawful : AllByRecursion IsLawful effect.moves
 
 pub accounted_by : (event : Event) (m : Machine) (effect : Effect) → Tells event m effect → EndsKnown event m effect → IsAccounted event m effect
 accounted_by event m effect h ends = assumption (ends-once event m effect h.told ends, h)
@@ -101,29 +105,34 @@ tells_then event m first next one two = record {
   told = told_then m first next one.told two.told;
   promotions = rises_by_then is_up promotes m first next one.promotions two.promotions;
   activations = rises_by_then is_hot_or_asked activates m first next one.activations two.activations;
-  arrivals = λ addr known.
-      let moved = list_any-append (λ move. shares addr move.happened) first.moves (next first.machine).moves in
-      grind (arith, one.arrivals addr, two.arrivals addr known, moved);
+  arrivals = λ addr known. grind (arith, one.arrivals addr, two.arrivals addr known, list_any-append (λ move. shares addr move.happened) first.moves (next first.machine).moves);
+  lawful = all-appended IsLawful first.moves (next first.machine).moves one.lawful two.lawful;
 }
 
-pub accounted-part : (event : Event) (m : Machine) (effect : Effect) → Accounts m effect → Tells event m effect
-accounted-part event m effect h = record {
-  told = h.told;
-  promotions = h.promotions;
-  activations = h.activations;
-  arrivals = λ addr known. or_left (is_known addr m || is_shared_in addr effect.moves) (is_provided_by addr event) (h.arrivals addr known);
+pub obeys-part : {event : Event} {m : Machine} {effect : Effect} → Obeys IsLawful m effect → Tells event m effect
+obeys-part {event} {m} {effect} h = record {
+  told = h.accounted.told;
+  promotions = h.accounted.promotions;
+  activations = h.accounted.activations;
+  arrivals = λ addr known. or_left (is_known addr m || is_shared_in addr effect.moves) (is_provided_by addr event) (h.accounted.arrivals addr known);
+  lawful = h.lawful;
 }
+
+-- where peers are tied to connections
+pub trimmed-part : {event : Event} {m : Machine} {effect : Effect} → IsTied m → Trimmed IsLawful m effect → Tells event m effect
+trimmed-part tied h = obeys-part (record { lawful = h.lawful tied; accounted = h.accounted })
 
 -- it provides only whom the event names
-pub providing-part : (event : Event) (m : Machine) (effect : Effect) → IsProviding m effect →
+pub providing-part : {event : Event} {m : Machine} {effect : Effect} → IsProviding m effect →
     ((addr : Addr) → is_known addr effect.machine ≡ true → (is_known addr m || is_provided_by addr event) ≡ true) → Tells event m effect
-providing-part event m effect p named =
+providing-part {event} {m} {effect} p named =
     let connected : NoneConnected m effect.machine = same-connected m effect.machine p.connections in
     record {
       told = p.told;
       promotions = rises_nowhere is_up promotes m effect connected.up;
       activations = rises_nowhere is_hot_or_asked activates m effect (hot_or_asked-down m effect.machine p.hot connected.asked);
       arrivals = λ addr known. grind (arith, named addr known);
+      lawful = quiet-lawful IsLawful effect p.moves;
     }
 
 lawful-part : (event : Event) (act : Act) (m : Machine) → ClosesBy act event → IsNext act m → IsDoneByOrder act m (does act m) → Finds act m →
@@ -167,28 +176,28 @@ pub record AreLawful (event : Event) (acts : List Act) (m : Machine) : Type 0 wh
   pub speaks : Speaks m (for_each does acts m)
   pub ends : EndsKnown event m (for_each does acts m)
 
-pub no_part : (event : Event) (m : Machine) → AreLawful event [] m
+pub no_part : {event : Event} (m : Machine) → AreLawful event [] m
 unfolding parts_from for_each
-no_part event m = record {
+no_part {event} m = record {
   each = tt;
-  tells = accounted-part event m (nothing_more m) (obeys_nothing (λ move. Unit {0}) m).accounted;
+  tells = obeys-part (obeys_nothing IsLawful m);
   speaks = record { to_open = tt; closes_last = tt };
   ends = λ cid before. or_left (is_negotiated_at cid m) (false || is_closed_by cid event) before;
 }
 
-pub first_part : (event : Event) (act : Act) (acts : List Act) (m : Machine) → ClosesBy act event → IsNext act m → IsDoneByOrder act m (does act m) → Finds act m → Tells event m (does act m) →
-    AreLawful event acts (does act m).machine → AreLawful event (act ∷ acts) m
+pub first_part : {event : Event} {act : Act} {acts : List Act} {m : Machine} → ClosesBy act event → IsNext act m → IsDoneByOrder act m (does act m) → Finds act m →
+    Tells event m (does act m) → AreLawful event acts (does act m).machine → AreLawful event (act ∷ acts) m
 unfolding parts_from for_each
-first_part event act acts m closes next order found h rest = record {
+first_part {event} {act} {acts} {m} closes next order found h rest = record {
   each = (lawful-part event act m closes next order found h, rest.each);
   tells = tells_then event m (does act m) (for_each does acts) h rest.tells;
   speaks = speaks_then m (does act m) (for_each does acts) h.told (speaks-right act m next found) rest.speaks;
   ends = stays_then is_negotiated_at (λ cid. is_closed_by cid event) m (does act m) (for_each does acts) (ends-known event act m closes next found h.told) rest.ends;
 }
 
-pub one_part : (event : Event) (act : Act) (m : Machine) → ClosesBy act event → IsNext act m → IsDoneByOrder act m (does act m) → Finds act m →
+pub one_part : {event : Event} {act : Act} {m : Machine} → ClosesBy act event → IsNext act m → IsDoneByOrder act m (does act m) → Finds act m →
     Tells event m (does act m) → AreLawful event (act ∷ []) m
-one_part event act m closes next order found h = first_part event act [] m closes next order found h (no_part event (does act m).machine)
+one_part closes next order found h = first_part closes next order found h (no_part _)
 
 each_more : (event : Event) (xs ys : List Act) (m : Machine) → AllByRecursion (IsLawfulPart event) (parts_from xs m) →
     AllByRecursion (IsLawfulPart event) (parts_from ys (for_each does xs m).machine) → AllByRecursion (IsLawfulPart event) (parts_from (xs ++ ys) m)
@@ -196,8 +205,8 @@ unfolding parts_from for_each
 each_more event [] ys m one two = two
 each_more event (x ∷ xs) ys m one two = (one.0, each_more event xs ys (does x m).machine one.1 two)
 
-pub more_parts : (event : Event) (xs ys : List Act) (m : Machine) → AreLawful event xs m → AreLawful event ys (for_each does xs m).machine → AreLawful event (xs ++ ys) m
-more_parts event xs ys m one two = record {
+pub more_parts : {event : Event} (xs ys : List Act) (m : Machine) → AreLawful event xs m → AreLawful event ys (for_each does xs m).machine → AreLawful event (xs ++ ys) m
+more_parts {event} xs ys m one two = record {
   each = each_more event xs ys m one.each two.each;
   tells = subst (Tells event m) (sym (each_appended does xs ys m)) (tells_then event m (for_each does xs m) (for_each does ys) one.tells two.tells);
   speaks = subst (Speaks m) (sym (each_appended does xs ys m)) (speaks_then m (for_each does xs m) (for_each does ys) one.tells.told one.speaks two.speaks);

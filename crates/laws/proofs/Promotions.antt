@@ -1,23 +1,19 @@
 -- Peers are promoted: a connection that stands comes into use, or an address without one is dialed.
-use Rattle.std.proofs.Common.{ℕ, ◌+◌, ◌≡◌, true, false, not, ◌&&◌, ◌||◌, List, [], ◌∷◌, map, find, sum_by, All, Option, Some, None, refl, sym, ap, ◌∙◌, subst, arith, is_some, Bool}
-use Rattle.laws.proofs.Words.{both_ways, false≢true, and_parts, and_from, All-push, All-weaker, sum_by_push, list_any_none}
+use Rattle.std.proofs.Common.{ℕ, ◌≡◌, true, false, not, ◌&&◌, ◌||◌, List, [], ◌∷◌, map, find, Option, Some, None, refl, sym, ap, ◌∙◌, subst, arith, is_some, Bool}
+use Rattle.laws.proofs.Words.{both_ways, and_parts, list_any_none}
 use Rattle.laws.specs.Words.{same_address, Addr, Peer, dialing, acquired, is_live, is_live_at, is_acquirable, is_negotiated, Promote, Machine, Entry, fresh_entry, live_entry_at, peer_at, acquire, dial, Effect, Move, promoted, as_move, promoted_at, list_any}
 use Rattle.laws.specs.AtMoves.{IsReady, is_up_connection, is_up, is_asked_connection, is_hot_or_asked, is_known, promotes, activates, shares, some_connection}
-use Rattle.laws.specs.Laws.{DifferInAddress}
-use Rattle.laws.specs.Steady.{IsShaped, IsOwing, TiedBy, IsOrdered}
-use Rattle.laws.proofs.Addresses.{same_address-self, same_address-true}
-use Rattle.laws.proofs.Counts.{counted_of, counted_in-sum, late_of, late_in-sum}
-use Rattle.laws.proofs.Entries.{with_new, come-orderly}
+use Rattle.laws.specs.Steady.{IsOrdered}
+use Rattle.laws.proofs.Addresses.{same_address-true}
 use Rattle.laws.proofs.Keeping.{Keeps}
 use Rattle.laws.proofs.Lawful.{Accounts, Obeys, IsAllowed, as_move-obeys, promoted-obeys}
 use Rattle.laws.proofs.Lists.{StandsAt, FoundIn, find_some, find_none}
-use Rattle.laws.proofs.Owing.{nothing-owing}
 use Rattle.laws.proofs.Newcomers.{comes-keeps}
 use Rattle.laws.proofs.Shapes.{dialing-shaped, can_acquire}
 use Rattle.laws.proofs.Orders.{Carries}
 use Rattle.laws.proofs.PeersApart.{same_turned, found-other}
 use Rattle.laws.proofs.Rises.{rises_said, hot_or_asked-down, rises_nowhere, come-down}
-use Rattle.laws.proofs.Ties.{live_here, come-ties, come_elsewhere}
+use Rattle.laws.proofs.Ties.{live_here, come_elsewhere}
 use Rattle.laws.proofs.ToldMoves.{dials-told}
 use Rattle.laws.proofs.Trims.{keeps-trimmed, Trimmed}
 use Rattle.laws.proofs.WholeMoves.{negotiated-live, acquire-keeps}

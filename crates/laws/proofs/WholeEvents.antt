@@ -1,15 +1,15 @@
 -- Each event of the whole machine.
 use Rattle.std.proofs.Common.{ℕ, zero, suc, ◌+◌, ◌≤◌, ◌≡◌, true, false, cond, nat_le, if◌then◌else◌, List, length, All, Option, Some, None, refl, sym, ap, ◌∙◌, subst, arith, leb-false}
-use Rattle.laws.proofs.Words.{cond_both, both_ways, and_parts, false≢true, All-push}
-use Rattle.laws.specs.Words.{same_address, Overwritten, Fault, HandshakeWait, ReplyWait, Addr, Event, Now, Govern, Accepted, Dialed, Bytes, Closed, Aims, Locals, Roots, BigAims, Bigs, Group, RootAnswer, Found, Failed, Peer, Deadline, Kind, Handshake, TimeWait, expired, is_live, is_live_at, cleaned, members_of, awaits, publics_of, found, failed, Machine, Entry, counted_in, live_entry_at, Effect, Move, shared, nothing_more, as_move, for_each, on_entry, peer_at, peer_is_ordinary, peer_comes, with_entry, without_entry, entry_turns, closing_entry, ending, deadlines, due, fires_as, fires, fires_some, fire_due, fire_all, clock_shows, admitted, peer_connects, peer_closes, dial_ends, govern, targets_are, big_targets_are, comes_ordinary, locals_are, is_wanted_big, comes_big, bigs_are, roots_say, roots_answer, bytes_come_in, step}
+use Rattle.laws.proofs.Words.{cond_both, both_ways, and_parts, false≢true}
+use Rattle.laws.specs.Words.{same_address, Overwritten, Fault, HandshakeWait, ReplyWait, Addr, Event, Now, Govern, Accepted, Dialed, Bytes, Closed, Aims, Locals, Roots, BigAims, Bigs, Group, RootAnswer, Found, Failed, Peer, Deadline, Kind, Handshake, TimeWait, expired, is_live, is_live_at, cleaned, members_of, awaits, publics_of, found, failed, Machine, Entry, counted_in, live_entry_at, Effect, shared, nothing_more, as_move, for_each, on_entry, peer_at, peer_is_ordinary, peer_comes, with_entry, without_entry, entry_turns, closing_entry, ending, deadlines, due, fires_as, fires, fires_some, fire_due, fire_all, clock_shows, admitted, peer_connects, comes_ordinary, locals_are, is_wanted_big, comes_big, roots_say, step}
 use Rattle.net_base.specs.declared.timer.Kind.TheVariants.{Grace as GraceKind}
 use Rattle.laws.specs.AtMoves.{IsLawful}
-use Rattle.laws.specs.Steady.{IsShaped, IsFormed, IsSteady, TiedBy, IsTied, IsOwing, IsOrdered}
+use Rattle.laws.specs.Steady.{IsFormed, IsSteady, TiedBy, IsTied, IsOrdered}
 use Rattle.laws.specs.Laws.{is_local, LocalsAreOrdinary}
 use Rattle.laws.proofs.Addresses.{same_address-true}
 use Rattle.laws.proofs.Entries.{TurnsInto}
 use Rattle.laws.proofs.Firing.{Due, due_of}
-use Rattle.laws.proofs.Ties.{turned-ties, gone-ties, gone_here, come-ties}
+use Rattle.laws.proofs.Ties.{turned-ties, gone-ties, gone_here}
 use Rattle.laws.proofs.Governing.{govern-trimmed}
 use Rattle.laws.proofs.GroupsApart.{cleaned-apart}
 use Rattle.laws.proofs.Counts.{counted_of, late_in, counted-expired, counted-closing, late-expired, late-closing}
@@ -22,7 +22,7 @@ use Rattle.laws.proofs.Ordinary.{members-classes}
 use Rattle.laws.proofs.Owing.{nothing-owing, alike-owing}
 use Rattle.laws.proofs.OwnAddress.{IsOther, members-other, publics-other, wanted-other, wanted-not_local}
 use Rattle.laws.proofs.Settings.{timewait-positive}
-use Rattle.laws.proofs.Shapes.{accepted-shaped, expired-shaped, closing-shaped}
+use Rattle.laws.proofs.Shapes.{expired-shaped, closing-shaped}
 use Rattle.laws.proofs.Streams.{bytes_come_in-trimmed}
 use Rattle.laws.proofs.Trims.{Trimmed}
 use Rattle.laws.proofs.WholeMoves.{ending-keeps, overwritten-keeps, vanishes-keeps, connects-keeps, stands-shaped, alike-keeps, stands-owing}
