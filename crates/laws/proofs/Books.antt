@@ -14,6 +14,10 @@ use Rattle.laws.proofs.PeersApart.{entered-cases}
 use Rattle.laws.proofs.Ties.{put_in-elsewhere, put_in-here, taken-elsewhere, taken-here, turns_at-elsewhere, none_there}
 use Rattle.laws.proofs.Walk.{Finds, Scope, turned_by, shuts, Kept, scope_of, walk}
 
+-- of one address, and of all others
+pub by_address : (P : Addr → Type 0) (a : Addr) → P a → ((b : Addr) → same_address b a ≡ false → P b) → (b : Addr) → P b
+by_address P a own others b = by_bool (same_address b a) (λ c. P b) (λ is. subst P (sym (same_address-true b a is)) own) (λ other. others b other)
+
 abbrev pub AtEach : (Addr → Option Peer → Option Peer → Type 0) → Machine → Machine → Type 0
 AtEach R m n = (a : Addr) → R a (peer_at a m) (peer_at a n)
 
@@ -23,9 +27,7 @@ module _ (R : Addr → Option Peer → Option Peer → Type 0) (itself : (a : Ad
 
   -- at one address, and at all others where it is as it was
   own-each : (a : Addr) (m n : Machine) → R a (peer_at a m) (peer_at a n) → ((b : Addr) → same_address b a ≡ false → peer_at b n ≡ peer_at b m) → AtEach R m n
-  own-each a m n own others b = by_bool (same_address b a) (λ c. R b (peer_at b m) (peer_at b n))
-      (λ is. subst (λ x. R x (peer_at x m) (peer_at x n)) (sym (same_address-true b a is)) own)
-      (λ other. subst (R b (peer_at b m)) (sym (others b other)) (itself b (peer_at b m)))
+  own-each a m n own others = by_address (λ b. R b (peer_at b m) (peer_at b n)) a own (λ b other. subst (R b (peer_at b m)) (sym (others b other)) (itself b (peer_at b m)))
 
   pub changed-each : (a : Addr) (change : Peer → Peer) (m : Machine) → ((p : Peer) → (change p).addr ≡ p.addr) → ((p : Peer) → R a (Some p) (Some (change p))) →
       AtEach R m (peer_changes a change m).machine
