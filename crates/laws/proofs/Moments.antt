@@ -42,27 +42,19 @@ reply-ahead now cid (o ∷ owed) protocol all =
 entry-ahead : (now : ℕ) (e : Entry) → AreAhead now (deadlines_of e) → (sort : Kind) → IsAhead now (until_of sort e)
 entry-ahead now e all = by_kind
   where
-    opening : List Deadline
-    opening = phase_deadlines e.facts.cid e.facts.phase
-
-    unused : List Deadline
-    unused = grace_deadlines e.facts.cid e.facts.grace
-
-    replies : List Deadline
-    replies = map (reply_deadline e.facts.cid) e.owed
-
-    first : AreAhead now (opening ++ unused)
-    first = All-front (λ d. now < d.at) (opening ++ unused) replies all
+    before : AreAhead now (phase_deadlines e.facts.cid e.facts.phase ++ grace_deadlines e.facts.cid e.facts.grace)
+    before = All-front (λ d. now < d.at) _ (map (reply_deadline e.facts.cid) e.owed) all
 
     in_phase : IsAhead now (until_greeted e.facts.phase) × IsAhead now (until_gone e.facts.phase)
-    in_phase = phase-ahead now e.facts.cid e.facts.phase (All-front (λ d. now < d.at) opening unused first)
+    in_phase = phase-ahead now e.facts.cid e.facts.phase (All-front (λ d. now < d.at) _ (grace_deadlines e.facts.cid e.facts.grace) before)
 
     owed : (protocol : ℕ) → IsAhead now (until_paid (reply_on protocol e))
-    owed protocol = reply-ahead now e.facts.cid e.owed protocol (All-behind (λ d. now < d.at) (opening ++ unused) replies all)
+    owed protocol = reply-ahead now e.facts.cid e.owed protocol
+        (All-behind (λ d. now < d.at) (phase_deadlines e.facts.cid e.facts.phase ++ grace_deadlines e.facts.cid e.facts.grace) _ all)
 
     by_kind : (sort : Kind) → IsAhead now (until_of sort e)
     by_kind kind.Handshake = in_phase.0
-    by_kind kind.Grace = grace-ahead now e.facts.cid e.facts.grace (All-behind (λ d. now < d.at) opening unused first)
+    by_kind kind.Grace = grace-ahead now e.facts.cid e.facts.grace (All-behind (λ d. now < d.at) (phase_deadlines e.facts.cid e.facts.phase) _ before)
     by_kind kind.TimeWait = in_phase.1
     by_kind kind.Reply2 = owed 2
     by_kind kind.Reply8 = owed 8
