@@ -5,6 +5,7 @@ use Rattle.laws.specs.Words.{AllByRecursion, same_address, Addr, Peer, has_addre
 use Rattle.peer_book.specs.Book.{peer_at}
 use Rattle.laws.specs.Steady.{ArePeersApart, IsFormed}
 use Rattle.laws.proofs.Addresses.{same_address-self, same_address-true}
+use Rattle.laws.proofs.Each.{weaker-both}
 use Rattle.laws.proofs.Lists.{filter-all}
 
 pub same_turned : (a b : Addr) → same_address a b ≡ false → same_address b a ≡ false
@@ -17,8 +18,7 @@ replaced-addr new p = grind (arith, same_address-true p.addr new.addr)
 pub with_peer-others : (new : Peer) (addr : Addr) (ps : List Peer) → AllByRecursion (λ q. same_address q.addr addr ≡ false) ps →
     AllByRecursion (λ q. same_address q.addr addr ≡ false) (with_peer new ps)
 with_peer-others new addr [] h = tt
-with_peer-others new addr (p ∷ ps) h =
-    (subst (λ a. same_address a addr ≡ false) (sym (replaced-addr new p)) h.0, with_peer-others new addr ps h.1)
+with_peer-others new addr (p ∷ ps) h = (rw (replaced-addr new p) h.0, with_peer-others new addr ps h.1)
 
 pub with_peer-apart : (new : Peer) (ps : List Peer) → ArePeersApart ps → ArePeersApart (with_peer new ps)
 with_peer-apart new [] h = tt
@@ -54,14 +54,9 @@ filter-apart q [] h = tt
 filter-apart q (p ∷ ps) h = grind (arith, filter-all (λ x. same_address x.addr p.addr ≡ false) q ps h.0, filter-apart q ps h.1)
 
 -- each is found under its address
-found_behind : (p : Peer) (ps qs : List Peer) → AllByRecursion (λ q. same_address q.addr p.addr ≡ false) qs →
-    AllByRecursion (λ q. peer_at q.addr ps ≡ Some q) qs → AllByRecursion (λ q. peer_at q.addr (p ∷ ps) ≡ Some q) qs
-found_behind p ps [] others h = tt
-found_behind p ps (q ∷ qs) others h = (rw (same_turned q.addr p.addr others.0) h.0, found_behind p ps qs others.1 h.1)
-
 pub all-found : (ps : List Peer) → ArePeersApart ps → AllByRecursion (λ p. peer_at p.addr ps ≡ Some p) ps
 all-found [] h = tt
-all-found (p ∷ ps) h = (rw (same_address-self p.addr) refl, found_behind p ps ps h.0 (all-found ps h.1))
+all-found (p ∷ ps) h = (rw (same_address-self p.addr) refl, weaker-both ps (λ q other found. rw (same_turned q.addr p.addr other) found) h.0 (all-found ps h.1))
 
 pub record IsBook (own : Addr) (peers : List Peer) : Type 0 where
   pub apart : ArePeersApart peers
