@@ -1,7 +1,7 @@
 -- What is remembered of peers, and whose failures are forgiven, through each part of an event.
 use Rattle.std.proofs.Common.{ℕ, ◌+◌, ◌%◌, ◌≡◌, ◌⊎◌, Bool, true, false, not, ◌&&◌, ◌||◌, ◌==◌, if◌then◌else◌, List, [], ◌∷◌, find, is_none, Option, Some, None, refl, sym, ap, ◌∙◌, subst, inl, inr, arith, eqb-true}
 use Rattle.laws.proofs.Words.{list_any_at, cond_both, both_ways, false≢true, and_parts, and_from, false_from_ne_true, not-true}
-use Rattle.laws.specs.Words.{option_map, unwrap_or, choice_of, is_candidate, is_counted, acquired, agreed_outbound, expired, has_id, is_acquirable, is_dialing, is_live, is_live_at, is_negotiated, is_outbound, is_pending, opening_phase, runs, Order, Ask, Forget, Promote, Release, Activate, Deactivate, verdict_of, answer_of, Verdict, kind_of, CutFault, Item, same_address, failed_peer, Close, CloseCause, Unused, Pruned, Overwritten, Refused, Query, Fault, Protocol, HandshakeWait, ReplyWait, Addr, Facts, Phase, Greeting, Negotiated, Peer, Temp, Cold, Warm, Hot, Kind, Seen, with_entry, without_entry, entry_turns, is_missed, lost, ending, vanishes, closing_entry, grace_over, acquire, candidates_in, trim, release, awake, idle, dial, dial_opens, fires_as, Effect, shared, unused, tells, nothing_more, then_do, as_move, on_entry, closes, dialed, promoted_at, is_used_at, on_used, asks_peer, activates, deactivates, carries_out, role_of, judged, greets, Machine, Entry, entry_at, live_entry_at, own_info, peer_at, peer_changes, peer_fails, peer_becomes, peer_goes, peer_comes, is_wanted_big, owing, paid, handled_in, handled, faulted, stops_if, serves, begins, brings, talks, is_greeting_phase, Cid}
+use Rattle.laws.specs.Words.{option_map, unwrap_or, choice_of, is_candidate, is_counted, acquired, agreed_outbound, expired, has_id, is_acquirable, is_dialing, is_live, is_live_at, is_negotiated, is_outbound, is_pending, opening_phase, runs, Order, Ask, Forget, Promote, Release, Activate, Deactivate, verdict_of, answer_of, Verdict, kind_of, CutFault, Item, same_address, failed_peer, Close, CloseCause, Unused, Pruned, Overwritten, Refused, Query, Fault, Protocol, HandshakeWait, ReplyWait, Agreed, Addr, Facts, Phase, Greeting, Negotiated, Peer, Temp, Cold, Warm, Hot, Kind, Seen, with_entry, without_entry, entry_turns, is_missed, lost, ending, vanishes, closing_entry, grace_over, acquire, candidates_in, trim, release, awake, idle, dial, dial_opens, fires_as, Effect, shared, unused, tells, nothing_more, then_do, as_move, on_entry, closes, dialed, promoted_at, is_used_at, on_used, asks_peer, activates, deactivates, carries_out, role_of, judged, greets, Machine, Entry, entry_at, live_entry_at, own_info, peer_at, peer_changes, peer_fails, peer_becomes, peer_goes, peer_comes, is_wanted_big, owing, paid, handled_in, handled, faulted, stops_if, serves, begins, brings, talks, is_greeting_phase, Cid}
 use Rattle.laws.specs.Words.verdict
 use Rattle.laws.specs.Words.kind
 use Rattle.laws.specs.Acts.{Act, fires_one, carries, ends_dial, handles_item, ends_stream, is_closed, makes_ordinary, provides, provides_big, does}
@@ -10,7 +10,7 @@ use Rattle.laws.specs.BackOff.{IsRemembered, WhereBoth, AllRemembered, OthersRem
 use Rattle.laws.specs.Sound.{IsOrderly}
 use Rattle.laws.specs.Steady.{IsShaped, IsOrdered}
 use Rattle.laws.proofs.Addresses.{same_address-self, same_address-true}
-use Rattle.laws.proofs.CarriedOut.{changed-orderly, treats-book, changed-here}
+use Rattle.laws.proofs.CarriedOut.{changed-orderly, treats-book, changed-here, turned-here}
 use Rattle.laws.proofs.Entries.{turned-orderly}
 use Rattle.laws.proofs.Failures.{changed-found}
 use Rattle.laws.proofs.Goes.{vanishes-none}
@@ -20,13 +20,14 @@ use Rattle.laws.proofs.Walk.{taken, agrees_inbound, agrees_outbound, is_released
 use Rattle.laws.proofs.Lawful.{stands-found}
 use Rattle.laws.proofs.Lists.{StandsAt, FoundIn, find_some, All-stands}
 use Rattle.laws.proofs.Moments.{ending-none, turned-found}
+use Rattle.laws.proofs.PeersApart.{by_address}
 use Rattle.laws.proofs.Pruning.{chosen-goes}
 use Rattle.laws.proofs.Shapes.{local-negotiated}
 use Rattle.laws.proofs.Ties.{turns_at-elsewhere}
 use Rattle.laws.proofs.ToldMoves.{turns_at-connections}
 use Rattle.laws.proofs.WholeMoves.{pending-unnegotiated}
 use Rattle.laws.specs.CarriedOut.{OnPeer, WhereGreeting, is_in_use, Forgives}
-use Rattle.laws.proofs.Books.{by_address, AtEach, same-each, changed-each, comes-each, goes-each}
+use Rattle.laws.proofs.Books.{AtEach, same-each, changed-each, comes-each, goes-each}
 use Rattle.laws.proofs.Cases.{by_bool, by_option, some_same}
 
 -- ---- whoever is there is there still
@@ -166,10 +167,6 @@ trim-by Law moved m h found same own = trim-cases moved.facts.cid m (λ effect. 
     subst (λ x. Law (ending Pruned x m).machine) (some_same moved e (sym found ∙ here)) own)
     (λ other may. same (ending Pruned e m).machine (unmissed-peers e m (candidate-unmissed e.facts may))) (chosen-goes moved.facts.cid m h e is))
 
--- what a connection turns into is found in its place
-turned-here : (m : Machine) (e new : Entry) (k : ℕ) → IsOrderly m → StandsAt m.connections k e → new.facts.cid ≡ e.facts.cid → entry_at e.facts.cid.0 (with_entry new m) ≡ Some new
-turned-here m e new k h s same = turned-found e new m same ∙ ap (option_map (λ x. new)) (stands-found m e k h s)
-
 -- ---- a deadline
 
 fired-beside : (sort : Kind) (e : Entry) (m : Machine) → Beside e m (fires_as sort e m).machine
@@ -180,21 +177,26 @@ fired-beside other e m = ending-beside (Fault ReplyWait) e m
 
 -- ---- an item
 
-judged-beside : (v : Verdict) (e : Entry) (m : Machine) → Beside e m (judged v e m).machine
-judged-beside (verdict.Accept agreed) e m = same-beside refl
-judged-beside verdict.Query e m = ending-beside Query e m
-judged-beside (verdict.Agree agreed) e m =
-    let only = only-changed IsSpared e.facts.addr (λ p. record p { temp = Warm; failures = 0 }) (with_entry (turned_by (agrees_outbound agreed) e m) m) (λ p. refl)
-    (λ p. record { failures = omega arith; not_before = refl }) in
-    record { others = only.0; own = inr only.1 }
-judged-beside verdict.Wrong e m = ending-beside (Fault Protocol) e m
-judged-beside other e m = ending-beside Refused e m
-
-greets-beside : (item : Item) (e : Entry) (m : Machine) → Beside e m (greets item e m).machine
-greets-beside item e m = greets-cases item e m (λ effect. Beside e m effect.machine) (λ fault. ending-beside (Fault fault) e m)
+-- in a handshake a connection is ended, or agrees
+greeted : (item : Item) (e : Entry) (m : Machine) (P : Machine → Type 0) → ((c : CloseCause) → P (ending c e m).machine) →
+    ((agreed : Agreed) → P (with_entry (turned_by (agrees_inbound agreed) e m) m)) → ((agreed : Agreed) → P (judged (verdict.Agree agreed) e m).machine) → P (greets item e m).machine
+greeted item e m P ends accepts agrees = greets-cases item e m (λ effect. P effect.machine) (λ fault. ends (Fault fault))
     (λ msg is.
     let v : Verdict = verdict_of (role_of e.facts.provenance) (own_info m.settings) msg in
-    subst (λ n. Beside e m (judged v e n).machine) (sym (answer-machine (answer_of v (own_info m.settings)) e.facts.cid m)) (judged-beside v e m))
+    subst (λ n. P (judged v e n).machine) (sym (answer-machine (answer_of v (own_info m.settings)) e.facts.cid m)) (by_verdict v))
+  where
+    by_verdict : (v : Verdict) → P (judged v e m).machine
+    by_verdict (verdict.Accept agreed) = accepts agreed
+    by_verdict verdict.Query = ends Query
+    by_verdict (verdict.Agree agreed) = agrees agreed
+    by_verdict verdict.Wrong = ends (Fault Protocol)
+    by_verdict other = ends Refused
+
+greets-beside : (item : Item) (e : Entry) (m : Machine) → Beside e m (greets item e m).machine
+greets-beside item e m = greeted item e m (Beside e m) (λ c. ending-beside c e m) (λ agreed. same-beside refl) (λ agreed.
+    let only = only-changed IsSpared e.facts.addr (λ p. record p { temp = Warm; failures = 0 }) (with_entry (turned_by (agrees_outbound agreed) e m) m) (λ p. refl)
+    (λ p. record { failures = omega arith; not_before = refl }) in
+    record { others = only.0; own = inr only.1 })
 
 serves-still : (seen : Seen) (protocol : ℕ) (e : Entry) (m : Machine) → Still m (serves seen protocol e m).machine
 serves-still seen protocol e m =
@@ -376,27 +378,15 @@ treats other m known = same-treated (treats-book other m)
 abbrev Forgiven : Entry → Machine → Type 0
 Forgiven e after = is_in_use (entry_at e.facts.cid.0 after) ≡ true → OnPeer (peer_at e.facts.addr after) (λ p. p.failures ≡ 0)
 
-ending-forgiven : (c : CloseCause) (e : Entry) (m : Machine) → Forgiven e (ending c e m).machine
-ending-forgiven c e m used = absurd (false≢true (sym (ap is_in_use (ending-none c e m)) ∙ used))
-
-judged-forgiven : (v : Verdict) (e : Entry) (m : Machine) → entry_at e.facts.cid.0 m ≡ Some e → e.facts.local ≡ false → Forgiven e (judged v e m).machine
-judged-forgiven (verdict.Accept agreed) e m is not_used used =
-    let new : Entry = turned_by (agrees_inbound agreed) e m in
-    absurd (both_ways e.facts.local not_used (sym (ap is_in_use (turned-found e new m refl ∙ ap (option_map (λ x. new)) is)) ∙ used))
-judged-forgiven verdict.Query e m is not_used used = ending-forgiven Query e m used
-judged-forgiven (verdict.Agree agreed) e m is not_used used =
-    changed-here e.facts.addr (λ p. record p { temp = Warm; failures = 0 })
-    (with_entry (owing 8 (e.facts.cid.0 % 65536) m (record e { facts = agreed_outbound agreed (m.now + m.settings.idle) e.facts })) m)
-    (λ p. refl) (λ p. p.failures ≡ 0) (λ p. refl)
-judged-forgiven verdict.Wrong e m is not_used used = ending-forgiven (Fault Protocol) e m used
-judged-forgiven other e m is not_used used = ending-forgiven Refused e m used
-
 handled_in-forgiven : (p : Phase) (item : Item) (e : Entry) (m : Machine) → entry_at e.facts.cid.0 m ≡ Some e → is_greeting_phase p ≡ true → e.facts.local ≡ false →
     Forgiven e (handled_in p item e m).machine
-handled_in-forgiven (Greeting until) item e m stands greeting not_used = greets-cases item e m (λ effect. Forgiven e effect.machine) (λ fault. ending-forgiven (Fault fault) e m)
-    (λ msg is.
-    let v : Verdict = verdict_of (role_of e.facts.provenance) (own_info m.settings) msg in
-    subst (λ n. Forgiven e (judged v e n).machine) (sym (answer-machine (answer_of v (own_info m.settings)) e.facts.cid m)) (judged-forgiven v e m stands not_used))
+handled_in-forgiven (Greeting until) item e m stands greeting not_used = greeted item e m (Forgiven e)
+    (λ c used. absurd (false≢true (sym (ap is_in_use (ending-none c e m)) ∙ used)))
+    (λ agreed used.
+    let new : Entry = turned_by (agrees_inbound agreed) e m in
+    absurd (both_ways e.facts.local not_used (sym (ap is_in_use (turned-found e new m refl ∙ ap (option_map (λ x. new)) stands)) ∙ used)))
+    (λ agreed used. changed-here e.facts.addr (λ p. record p { temp = Warm; failures = 0 }) (with_entry (turned_by (agrees_outbound agreed) e m) m)
+    (λ p. refl) (λ p. p.failures ≡ 0) (λ p. refl))
 handled_in-forgiven other item e m stands greeting not_used = absurd (false≢true greeting)
 
 handled-forgiven : (own : Cid) (item : Item) (m : Machine) → Forgives (handles_item own item) m (does (handles_item own item) m).machine
@@ -407,8 +397,7 @@ handled-forgiven own item m = by_option (entry_at own.0 m)
     (λ is. tt)
     (λ e is. λ greeting not_used used.
     let same : own.0 ≡ e.facts.cid.0 = sym (eqb-true e.facts.cid.0 own.0 (find_some (λ x. has_id own.0 x.facts) m.connections e is).passes) in
-    handled_in-forgiven e.facts.phase item e m (subst (λ c. entry_at c m ≡ Some e) same is) greeting not_used
-    (subst (λ c. is_in_use (entry_at c (handled item e m).machine) ≡ true) same used))
+    handled_in-forgiven e.facts.phase item e m (rw same at is) greeting not_used (rw same at used))
 
 pub forgives : (act : Act) (m : Machine) → Forgives act m (does act m).machine
 forgives (handles_item cid item) m = handled-forgiven cid item m

@@ -10,13 +10,9 @@ use Rattle.laws.proofs.CarriedOut.{treats-book}
 use Rattle.laws.proofs.Cases.{by_bool, by_option}
 use Rattle.laws.proofs.Failures.{changed-found}
 use Rattle.laws.proofs.Lawful.{comes-machine}
-use Rattle.laws.proofs.PeersApart.{entered-cases}
+use Rattle.laws.proofs.PeersApart.{by_address, entered-cases}
 use Rattle.laws.proofs.Ties.{put_in-elsewhere, put_in-here, taken-elsewhere, taken-here, turns_at-elsewhere, none_there}
 use Rattle.laws.proofs.Walk.{Finds, Scope, turned_by, shuts, Kept, scope_of, walk}
-
--- of one address, and of all others
-pub by_address : (P : Addr → Type 0) (a : Addr) → P a → ((b : Addr) → same_address b a ≡ false → P b) → (b : Addr) → P b
-by_address P a own others b = by_bool (same_address b a) (λ c. P b) (λ is. subst P (sym (same_address-true b a is)) own) (λ other. others b other)
 
 abbrev pub AtEach : (Addr → Option Peer → Option Peer → Type 0) → Machine → Machine → Type 0
 AtEach R m n = (a : Addr) → R a (peer_at a m) (peer_at a n)

@@ -12,8 +12,11 @@ use Rattle.laws.proofs.Due.{promote-move, activate-move}
 use Rattle.laws.proofs.Entries.{TurnsInto, turned-connections, turned-orderly, one_has_id, has_own_id}
 use Rattle.laws.proofs.Failures.{changed-found, vanishes-failed}
 use Rattle.laws.proofs.Finds.{find-set_here, find-set_gone}
+use Rattle.laws.proofs.Lawful.{stands-found}
+use Rattle.laws.proofs.Moments.{turned-found}
+use Rattle.laws.proofs.PeersApart.{by_address}
 use Rattle.laws.proofs.Lists.{StandsAt, OnePasses, FoundIn, stands-set, find_some, find_only, find_none, not_below}
-use Rattle.laws.proofs.Walk.{Finds, release-machine, cooled, turned_by, is_released}
+use Rattle.laws.proofs.Walk.{Finds, taken, release-machine, cooled, turned_by, is_released}
 use Rattle.laws.proofs.Orders.{unused_at}
 use Rattle.laws.proofs.Silent.{pauses-deaf, part-silent, asks-silent}
 use Rattle.laws.proofs.Ties.{live_one, taken-here, turns_at-elsewhere}
@@ -69,21 +72,18 @@ changed-here a change m same law each = subst (λ o. OnPeer o law) (sym (changed
 
 -- ---- a connection that is taken into use
 
+-- what a connection turns into is found in its place
+pub turned-here : (m : Machine) (e new : Entry) (k : ℕ) → IsOrderly m → StandsAt m.connections k e → new.facts.cid ≡ e.facts.cid → entry_at e.facts.cid.0 (with_entry new m) ≡ Some new
+turned-here m e new k h s same = turned-found e new m same ∙ ap (option_map (λ x. new)) (stands-found m e k h s)
+
 reuses : (addr : Addr) (m : Machine) → IsOrderly m → Reuses addr m (promote addr m).machine
 reuses addr m h e live free =
-    let taken : (promote addr m).machine ≡ (acquire e m).machine = rw (live, free) refl in
     let at = find_some (λ x. is_live_at addr x.facts) m.connections e live in
-    let new : Entry = owing 8 (e.facts.cid.0 % 65536) m (record e { facts = acquired e.facts }) in
-    let n : Machine = with_entry new m in
+    let n : Machine = with_entry (taken (acquired e.facts) e m) m in
     let warm : Peer → Peer = λ p. record p { temp = Warm; failures = 0 } in
-    let t : TurnsInto e new = record { same_id = refl; same_addr = refl; live = λ l. l } in
-    let list : (acquire e m).machine.connections ≡ set m.connections at.place new =
-    turns_at-connections (peer_at e.facts.addr n) warm n ∙ turned-connections m e new at.place h at.stands t in
-    let found : entry_at e.facts.cid.0 (acquire e m).machine ≡ Some new =
-    ap (find (λ x. has_id e.facts.cid.0 x.facts)) list
-    ∙ find-set_here (λ x. has_id e.facts.cid.0 x.facts) new e m.connections at.place (one_has_id e.facts.cid.0 m.connections h.ids_rise) at.stands (has_own_id e) (has_own_id e) in
-    subst (IsReused e) (sym taken)
-    (record {
+    let found : entry_at e.facts.cid.0 (acquire e m).machine ≡ Some (taken (acquired e.facts) e m) =
+    ap (find (λ x. has_id e.facts.cid.0 x.facts)) (turns_at-connections (peer_at e.facts.addr n) warm n) ∙ turned-here m e (taken (acquired e.facts) e m) at.place h at.stands refl in
+    rw (live, free) (record {
       stands = subst (λ o. OnEntry o (λ f. f.facts ≡ record e.facts { local = true })) (sym found) refl;
       warm = changed-here e.facts.addr warm n (λ p. refl) (λ p. p.temp ≡ Warm) (λ p. refl);
       forgiven = changed-here e.facts.addr warm n (λ p. refl) (λ p. p.failures ≡ 0) (λ p. refl);
@@ -113,10 +113,9 @@ used-leaves addr act m law h each e live local =
 -- one that is cold stays so when a connection is pruned
 lost-cold : (a : Addr) (f : Facts) (m : Machine) → OnPeer (peer_at a m) (λ p. p.temp ≡ Cold) → OnPeer (peer_at a (lost f m).machine) (λ p. p.temp ≡ Cold)
 lost-cold a f m cold = cond_both (is_missed f) (peer_fails f.addr m) (nothing_more m) (λ effect. OnPeer (peer_at a effect.machine) (λ p. p.temp ≡ Cold))
-    (λ missed. by_bool (same_address a f.addr) (λ b. OnPeer (peer_at a (peer_changes f.addr fails m).machine) (λ p. p.temp ≡ Cold))
-    (λ here. subst (λ x. OnPeer (peer_at x (peer_changes f.addr fails m).machine) (λ p. p.temp ≡ Cold)) (sym (same_address-true a f.addr here))
-    (changed-here f.addr fails m (λ p. refl) (λ p. p.temp ≡ Cold) (λ p. refl)))
-    (λ other. subst (λ o. OnPeer o (λ p. p.temp ≡ Cold)) (sym (turns_at-elsewhere f.addr fails m (λ p. refl) a other)) cold)) (λ other. cold)
+    (λ missed. by_address (λ b. OnPeer (peer_at b m) (λ p. p.temp ≡ Cold) → OnPeer (peer_at b (peer_fails f.addr m).machine) (λ p. p.temp ≡ Cold)) f.addr
+    (λ cold. changed-here f.addr fails m (λ p. refl) (λ p. p.temp ≡ Cold) (λ p. refl))
+    (λ b other cold. subst (λ o. OnPeer o (λ p. p.temp ≡ Cold)) (sym (turns_at-elsewhere f.addr fails m (λ p. refl) b other)) cold) a cold) (λ other. cold)
   where
     fails : Peer → Peer
     fails = failed_peer m.now m.settings.backoff

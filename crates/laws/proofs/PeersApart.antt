@@ -5,11 +5,16 @@ use Rattle.laws.specs.Words.{AllByRecursion, same_address, Addr, Peer, has_addre
 use Rattle.peer_book.specs.Book.{peer_at}
 use Rattle.laws.specs.Steady.{ArePeersApart, IsFormed}
 use Rattle.laws.proofs.Addresses.{same_address-self, same_address-true}
+use Rattle.laws.proofs.Cases.{by_bool}
 use Rattle.laws.proofs.Each.{weaker-both}
 use Rattle.laws.proofs.Lists.{filter-all}
 
 pub same_turned : (a b : Addr) → same_address a b ≡ false → same_address b a ≡ false
 same_turned a b h = grind (arith, h, same_address-true b a, same_address-self b)
+
+-- of one address, and of all others
+pub by_address : (P : Addr → Type 0) (a : Addr) → P a → ((b : Addr) → same_address b a ≡ false → P b) → (b : Addr) → P b
+by_address P a own others b = by_bool (same_address b a) (λ c. P b) (λ is. subst P (sym (same_address-true b a is)) own) (λ other. others b other)
 
 -- a peer in place of the one with its address
 replaced-addr : (new p : Peer) → (if has_address new.addr p then new else p).addr ≡ p.addr
