@@ -1,11 +1,10 @@
 -- What is remembered of peers, and whose failures are forgiven, through each part of an event.
-use Rattle.std.proofs.Common.{ℕ, ◌+◌, ◌%◌, ◌≡◌, ◌⊎◌, Bool, true, false, not, ◌&&◌, ◌||◌, ◌==◌, if◌then◌else◌, List, [], ◌∷◌, find, is_none, Option, Some, None, refl, sym, ap, ◌∙◌, subst, inl, inr, arith, eqb-true}
-use Rattle.laws.proofs.Words.{list_any_at, cond_both, both_ways, false≢true, and_parts, and_from, false_from_ne_true, not-true}
-use Rattle.laws.specs.Words.{option_map, unwrap_or, choice_of, is_candidate, is_counted, acquired, agreed_outbound, expired, has_id, is_acquirable, is_dialing, is_live, is_live_at, is_negotiated, is_outbound, is_pending, opening_phase, runs, Order, Ask, Forget, Promote, Release, Activate, Deactivate, verdict_of, answer_of, Verdict, kind_of, CutFault, Item, same_address, failed_peer, Close, CloseCause, Unused, Pruned, Overwritten, Refused, Query, Fault, Protocol, HandshakeWait, ReplyWait, Agreed, Addr, Facts, Phase, Greeting, Negotiated, Peer, Temp, Cold, Warm, Hot, Kind, Seen, with_entry, without_entry, entry_turns, is_missed, lost, ending, vanishes, closing_entry, grace_over, acquire, candidates_in, trim, release, awake, idle, dial, dial_opens, fires_as, Effect, shared, unused, tells, nothing_more, then_do, as_move, on_entry, closes, dialed, promoted_at, is_used_at, on_used, asks_peer, activates, deactivates, carries_out, role_of, judged, greets, Machine, Entry, entry_at, live_entry_at, own_info, peer_at, peer_changes, peer_fails, peer_becomes, peer_goes, peer_comes, is_wanted_big, owing, paid, handled_in, handled, faulted, stops_if, serves, begins, brings, talks, is_greeting_phase, Cid}
+use Rattle.std.proofs.Common.{ℕ, ◌+◌, ◌≡◌, ◌⊎◌, Bool, true, false, not, ◌&&◌, ◌||◌, ◌==◌, if◌then◌else◌, List, find, is_none, Option, Some, None, refl, sym, ap, ◌∙◌, subst, inl, inr, arith, eqb-true}
+use Rattle.laws.proofs.Words.{list_any_at, cond_both, both_ways, false≢true, and_parts, false_from_ne_true, not-true}
+use Rattle.laws.specs.Words.{option_map, unwrap_or, choice_of, is_candidate, is_counted, acquired, has_id, is_acquirable, is_dialing, is_live, is_live_at, is_negotiated, is_outbound, is_pending, opening_phase, runs, Order, Ask, Forget, Promote, Release, Activate, Deactivate, verdict_of, answer_of, Verdict, kind_of, CutFault, Item, same_address, failed_peer, CloseCause, Pruned, Overwritten, Refused, Query, Fault, Protocol, HandshakeWait, ReplyWait, Agreed, Addr, Facts, Phase, Greeting, Negotiated, Peer, Temp, Cold, Warm, Hot, Kind, Seen, with_entry, without_entry, is_missed, lost, ending, vanishes, acquire, candidates_in, trim, release, awake, idle, dial, fires_as, Effect, nothing_more, on_entry, closes, dialed, promoted_at, on_used, asks_peer, activates, deactivates, carries_out, role_of, judged, greets, Machine, Entry, entry_at, live_entry_at, own_info, peer_at, peer_changes, peer_fails, peer_becomes, peer_comes, is_wanted_big, owing, paid, handled_in, handled, faulted, stops_if, serves, begins, brings, talks, is_greeting_phase, Cid}
 use Rattle.laws.specs.Words.verdict
 use Rattle.laws.specs.Words.kind
 use Rattle.laws.specs.Acts.{Act, fires_one, carries, ends_dial, handles_item, ends_stream, is_closed, makes_ordinary, provides, provides_big, does}
-use Rattle.laws.specs.AtMoves.{some_connection}
 use Rattle.laws.specs.BackOff.{IsRemembered, WhereBoth, AllRemembered, OthersRemembered, IsAsked, IsTaken, RemembersByOrder, RemembersBeside, Remembers, IsSpared, FailsOnly, has_lost}
 use Rattle.laws.specs.Sound.{IsOrderly}
 use Rattle.laws.specs.Steady.{IsShaped, IsOrdered}

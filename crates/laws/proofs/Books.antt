@@ -5,9 +5,8 @@ use Rattle.laws.specs.Words.{option_map, same_address, Addr, Facts, Peer, CloseC
 use Rattle.peer_book.specs.Book.{peer_at as peer_in, with_new as with_new_in}
 use Rattle.laws.specs.Acts.{Act, shows, asks_for_roots, sets_targets, sets_big_targets, sets_groups, sets_roots, does}
 use Rattle.laws.specs.Parts.{IsNext}
-use Rattle.laws.proofs.Addresses.{same_address-true}
 use Rattle.laws.proofs.CarriedOut.{treats-book}
-use Rattle.laws.proofs.Cases.{by_bool, by_option}
+use Rattle.laws.proofs.Cases.{by_option}
 use Rattle.laws.proofs.Failures.{changed-found}
 use Rattle.laws.proofs.Lawful.{comes-machine}
 use Rattle.laws.proofs.PeersApart.{by_address, entered-cases}

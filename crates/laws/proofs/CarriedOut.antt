@@ -1,17 +1,17 @@
 -- Each order does what it says, the book changes only where it is to, and accepting pauses where it must.
-use Rattle.std.proofs.Common.{ℕ, ◌+◌, ◌%◌, ◌≡◌, Bool, true, false, ◌&&◌, nat_lt, if◌then◌else◌, [], ◌∷◌, find, get_or, set, Option, Some, None, is_some, refl, sym, ap, ◌∙◌, subst, arith}
+use Rattle.std.proofs.Common.{ℕ, ◌+◌, ◌≡◌, Bool, true, false, ◌&&◌, nat_lt, if◌then◌else◌, [], ◌∷◌, find, get_or, set, Option, Some, None, is_some, refl, sym, ap, ◌∙◌, subst, arith}
 use Rattle.laws.proofs.Words.{cond_both, and_parts, and_from, All-weaker}
 use Rattle.laws.specs.Words.{Effect, option_map, pause_of, acquired, has_id, is_live, is_live_at, Order, Ask, Forget, Promote, Release, Activate, Deactivate, Addr, Peer, Cold, Warm, same_address, failed_peer, Cid, Facts, Pause, Overwritten, may_ask, with_entry, without_entry, lost, ending, acquire, trim, release, nothing_more, on_entry, admitted, closes, promote, is_used_at, on_used, asks_peer, deactivates, carries_out, Machine, Entry, counted_in, entry_at, live_entry_at, peer_at, turns_at, peer_changes, peer_fails, owing}
 use Rattle.laws.specs.AtMoves.{is_missed, FailsWhere, OnEntry}
-use Rattle.laws.specs.CarriedOut.{WhereLive, OnPeer, IsReused, Reuses, IsUsedByNobody, Comes, IsCarriedOut, TreatsBook, pauses_by, pauses_in, pauses_due, PausesRight}
+use Rattle.laws.specs.CarriedOut.{WhereLive, OnPeer, Reuses, IsUsedByNobody, Comes, IsCarriedOut, TreatsBook, pauses_by, pauses_in, pauses_due, PausesRight}
 use Rattle.laws.specs.Sound.{IsOrderly}
 use Rattle.laws.specs.Acts.{Act, shows, asks_for_roots, connects, stores, is_closed, sets_targets, sets_big_targets, sets_groups, sets_roots, does}
 use Rattle.laws.specs.Parts.{IsNext}
 use Rattle.laws.proofs.Addresses.{same_address-true}
 use Rattle.laws.proofs.Due.{promote-move, activate-move}
-use Rattle.laws.proofs.Entries.{TurnsInto, turned-connections, turned-orderly, one_has_id, has_own_id}
+use Rattle.laws.proofs.Entries.{TurnsInto, turned-connections, turned-orderly}
 use Rattle.laws.proofs.Failures.{changed-found, vanishes-failed}
-use Rattle.laws.proofs.Finds.{find-set_here, find-set_gone}
+use Rattle.laws.proofs.Finds.{find-set_gone}
 use Rattle.laws.proofs.Lawful.{stands-found}
 use Rattle.laws.proofs.Moments.{turned-found}
 use Rattle.laws.proofs.PeersApart.{by_address}
@@ -22,7 +22,7 @@ use Rattle.laws.proofs.Silent.{pauses-deaf, part-silent, asks-silent}
 use Rattle.laws.proofs.Ties.{live_one, taken-here, turns_at-elsewhere}
 use Rattle.laws.proofs.ToldMoves.{turns_at-connections}
 use Rattle.laws.proofs.Trims.{trim-used}
-use Rattle.laws.proofs.Cases.{by_bool, by_option}
+use Rattle.laws.proofs.Cases.{by_option}
 use Rattle.laws.proofs.Connects.{connects-cases}
 use Rattle.laws.proofs.ItemCases.{trim-cases}
 

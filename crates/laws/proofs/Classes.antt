@@ -1,9 +1,10 @@
--- Whoever stays in the book keeps the class, and whoever comes is of the class that is brought.
-use Rattle.std.proofs.Common.{◌≡◌, Bool, true, false, Option, Some, None, refl, sym, ◌∙◌, subst}
-use Rattle.laws.proofs.Words.{false≢true}
+-- Whoever stays in the book keeps the class, and whoever comes is of the class that is brought; and whoever is in it stays, unless an order
+-- forgets it.
+use Rattle.std.proofs.Common.{◌≡◌, Bool, true, false, Option, Some, None, refl, sym, ◌∙◌, subst, ◌||◌, is_some, arith}
+use Rattle.laws.proofs.Words.{false≢true, or_left}
 use Rattle.laws.specs.Words.{option_map, Addr, Peer, Forget, peer_is_ordinary, peer_at, Machine}
 use Rattle.laws.specs.Acts.{Act, carries, makes_ordinary, does}
-use Rattle.laws.specs.CarriedOut.{OnPeer, is_made_ordinary, brings_class, IsOfClass, KeepsClass}
+use Rattle.laws.specs.CarriedOut.{OnPeer, is_made_ordinary, brings_class, IsOfClass, KeepsClass, forgets, KeepsKnown}
 use Rattle.laws.specs.Parts.{IsNext}
 use Rattle.laws.proofs.Addresses.{same_address-true}
 use Rattle.laws.proofs.Failures.{changed-found}
@@ -69,3 +70,19 @@ made other m addr own = absurd (false≢true own)
 
 pub keeps-class : (act : Act) (m : Machine) → IsNext act m → Finds act m → KeepsClass act m (does act m).machine
 keeps-class act m next found = record { class = classed act m next found; made = made act m }
+
+abbrev Stays : (Addr → Bool) → Addr → Option Peer → Option Peer → Type 0
+Stays leaves a before after = is_some before ≡ true → (is_some after || leaves a) ≡ true
+
+stays_then : (leaves : Addr → Bool) (a : Addr) (o p q : Option Peer) → Stays leaves a o p → Stays leaves a p q → Stays leaves a o q
+stays_then leaves a o p q one two known = grind (arith, one known, two)
+
+pub keeps-known : (act : Act) (m : Machine) → IsNext act m → Finds act m → KeepsKnown act m (does act m).machine
+keeps-known act m next found = book-walk act m (Stays (forgets act)) next found (record {
+  itself = λ a o known. or_left (is_some o) (forgets act a) known;
+  joins = stays_then (forgets act);
+  changed = λ a p q same known. refl;
+  made = λ a p may known. refl;
+  brought = λ big a may known. refl;
+  gone = λ a p may known. may;
+})

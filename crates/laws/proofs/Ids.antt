@@ -3,11 +3,10 @@ use Rattle.std.proofs.Common.{ℕ, zero, suc, Bool, true, false, ◌||◌, nat_l
 use Rattle.laws.proofs.Words.{cond_both, false≢true}
 use Rattle.laws.specs.Words.{is_greeting, is_negotiated, FedBy, Item, Overwritten, Addr, Cid, Group, Job, RootAnswer, Found, Failed, Deadline, cleaned, members_of, awaits, Machine, Entry, entry_at, Effect, nothing_more, on_entry, for_each, peer_at, peer_is_ordinary, with_entry, ending, due, fires_as, fires, fires_some, fire_due, fire_all, clock_shows, peer_connects, dialed, dial_ends, comes_ordinary, locals_are, comes_big, roots_say, roots_answer, handled, handles, faulted, fed_with, feeds, comes_in, Event, Now, Govern, Accepted, Dialed, Bytes, Closed, Aims, Locals, Roots, BigAims, Bigs, peer_closes, targets_are, big_targets_are, bigs_are, bytes_come_in, step}
 use Rattle.laws.proofs.Walk.{Scope, Stands, found-stands, Kept, on_found, fires-walk, dialed-walk, big-walk, handled-walk, faulted-walk}
-use Rattle.laws.proofs.Numbers.{GivesNone, GivesOne, ending-none, for_each-none, gains_then, none_then, numbers_of, one_more, peer_comes-none, turns_at-none, unchanged, vanishes-none, Gains}
+use Rattle.laws.proofs.Numbers.{GivesNone, GivesOne, ending-none, for_each-none, gains_then, none_then, numbers_of, one_more, peer_comes-none, turns_at-none, unchanged, vanishes-none, Gains, govern-few}
 use Rattle.laws.proofs.Cases.{by_option}
 use Rattle.laws.proofs.Connects.{connects-cases, stood-cases, closes-cases}
 use Rattle.laws.specs.Steady.{IsFormed, GivesFew}
-use Rattle.laws.proofs.NumbersOfRules.{govern-few}
 
 -- ---- a part that dials nobody, and lets nobody in
 

@@ -1,5 +1,5 @@
 -- The deadline that fires is the least of all.
-use Rattle.std.proofs.Common.{ℕ, ◌≤◌, ◌<◌, ◌≡◌, Bool, true, false, ◌&&◌, ◌||◌, ◌==◌, nat_lt, nat_le, if◌then◌else◌, List, [], ◌∷◌, filter, Option, Some, None, refl, sym, subst, arith, leb-true, leb-false}
+use Rattle.std.proofs.Common.{ℕ, ◌≤◌, ◌≡◌, Bool, true, false, ◌&&◌, ◌||◌, ◌==◌, nat_lt, nat_le, if◌then◌else◌, List, [], ◌∷◌, filter, Some, refl, sym, subst, arith, leb-true, leb-false}
 use Rattle.laws.proofs.Words.{All-from_recursion}
 use Rattle.laws.specs.Words.{AllByRecursion, deadline_before, kind_place, Deadline, deadlines, due, earlier, least, Machine}
 use Rattle.laws.specs.Parts.{IsLeastDue}

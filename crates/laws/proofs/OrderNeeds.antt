@@ -10,7 +10,7 @@ use Rattle.laws.specs.Steady.{IsOrdered}
 use Rattle.laws.proofs.Cases.{by_option}
 use Rattle.laws.proofs.Chain.{rules-chain}
 use Rattle.laws.proofs.Governing.{Governs, governs, asks_roots-keeps}
-use Rattle.laws.proofs.NumbersOfRules.{rules-give}
+use Rattle.laws.proofs.Numbers.{rules-give}
 use Rattle.laws.proofs.Ordering.{AreRight}
 use Rattle.laws.proofs.Promotions.{free-may}
 use Rattle.laws.proofs.WaitsOfParts.{order-waits}

@@ -18,16 +18,17 @@ use Rattle.laws.proofs.GroupsApart.{append-apart}
 use Rattle.laws.proofs.Lawful.{IsAllowed, Within, allowed_within}
 use Rattle.laws.proofs.Lists.{all-appended}
 use Rattle.laws.proofs.Locals.{not_local-no_member}
-use Rattle.laws.proofs.Orders.{IsCold, ask-carried, forget-carried, release-carried, activate-carried, deactivate-carried}
-use Rattle.laws.proofs.Promotions.{promotes-carried, free-may}
-use Rattle.laws.proofs.Sharing.{shares-may}
+use Rattle.laws.proofs.Orders.{IsCold, ask-carried, forget-carried, release-carried, activate-carried, deactivate-carried, MayAsk}
+use Rattle.laws.proofs.Promotions.{promotes-carried, free-may, live-passes}
 use Rattle.laws.proofs.Spending.{AreSameBut, ChangesAt, IsLocalTest, counted-one, number-one, members-one, members-none, promote-changes, activate-changes}
 use Rattle.laws.proofs.Ties.{taken-elsewhere}
 use Rattle.laws.proofs.ToldMoves.{is_temp}
 use Rattle.laws.proofs.Trims.{Trimmed, nothing-trimmed, trimmed_then, trimmed_both, trimmed-within}
 use Rattle.laws.proofs.WaitsOfParts.{order-unset}
 use Rattle.laws.proofs.Wanted.{Uses, promotes-use, activates-use, Lets, OfClass, OfGroup, ClassLeft, GroupsLeft, class-lets, groups-lets, groups-left, promotes-number, activates-number, linked, of-class, picks-most, listed_in, own_picks, none_in-each, hot-active, established-stays, active-stays}
-use Rattle.laws.proofs.WholeMoves.{IsWarm}
+use Rattle.laws.proofs.WholeMoves.{IsWarm, stands-shaped, negotiated-live}
+use Rattle.laws.proofs.CarriedOut.{used-here}
+use Rattle.laws.proofs.Shapes.{local-negotiated}
 
 -- ---- one order after the other
 
@@ -209,6 +210,13 @@ releases-spend big = record {
 }
 
 -- ---- a peer is asked for addresses
+
+-- who can share has agreed on it on the connection in use
+shares-may : (m : Machine) → IsOrdered m → (addr : Addr) → some_connection can_tell addr m ≡ true → MayAsk m addr
+shares-may m h addr can e found =
+    let tells = live-passes can_tell addr m h (λ x k s tells. negotiated-live x.facts.phase (local-negotiated x.facts (stands-shaped m x k h s) (grind (arith, tells)))) can in
+    let same : tells.0 ≡ e = some_same tells.0 e (sym (used-here addr m tells.0 h.orderly tells.1 (grind (arith, tells.2))) ∙ found) in
+    grind (arith, same, tells.2)
 
 abbrev IsToAsk : ℕ → Peer → Type 0
 IsToAsk now p = (is_established p.temp ≡ true) × (p.share_next ≤ now)

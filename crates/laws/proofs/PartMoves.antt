@@ -20,8 +20,7 @@ use Rattle.laws.proofs.BackOff.{treats, forgives}
 use Rattle.laws.proofs.Begun.{over-after, waits-begin}
 use Rattle.laws.proofs.Goes.{goes-where}
 use Rattle.laws.proofs.Heats.{heats-up}
-use Rattle.laws.proofs.Classes.{keeps-class}
-use Rattle.laws.proofs.Known.{keeps-known}
+use Rattle.laws.proofs.Classes.{keeps-class, keeps-known}
 use Rattle.laws.proofs.Lingers.{lingers}
 use Rattle.laws.proofs.OpenEnds.{StaysOr, stays_then, stays-of, opens-once, ended_once}
 use Rattle.laws.proofs.RootsAsked.{asks-right}

@@ -1,6 +1,6 @@
 -- Picks are of the candidates, and no address is picked twice.
 use Rattle.std.proofs.Common.{ℕ, suc, ◌≡◌, Bool, true, false, cond, List, [], ◌∷◌, map, filter, Some, refl, arith}
-use Rattle.laws.specs.Words.{AllByRecursion, best_of, address_below, ip_below, same_address, Ip, V4, V6, Addr, Peer, least_by, pair_below, score_of, ranked_score_of, scores_below, rates_below, Rated, rated_of, picks_of, addresses_of}
+use Rattle.laws.specs.Words.{AllByRecursion, best_of, address_below, same_address, Addr, Peer, least_by, pair_below, score_of, ranked_score_of, scores_below, rates_below, Rated, rated_of, picks_of, addresses_of}
 use Rattle.peer_book.specs.Book.{peer_at}
 use Rattle.laws.specs.Steady.{ArePeersApart, AreApart}
 use Rattle.laws.proofs.Addresses.{same_address-true}

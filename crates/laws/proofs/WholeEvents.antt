@@ -15,7 +15,7 @@ use Rattle.laws.proofs.GroupsApart.{cleaned-apart}
 use Rattle.laws.proofs.Counts.{counted_of, late_in, counted-expired, counted-closing, late-expired, late-closing}
 use Rattle.laws.proofs.Effects.{one_if-not_counted}
 use Rattle.laws.proofs.Events.{at_moment, at_moment-orderly, ahead-none_late, none_late-ahead, clock_shows-sound}
-use Rattle.laws.proofs.Newcomers.{admitted-keeps}
+use Rattle.laws.proofs.Promotions.{admitted-keeps}
 use Rattle.laws.proofs.Keeping.{Keeps, keeps_nothing, keeps_then, moves-keeps, turns-moves, goes-moves, elsewhere-keeps, changes-keeps, peer_comes-keeps, for_each-keeps, for_each_that-keeps}
 use Rattle.laws.proofs.Lists.{StandsAt, find_some}
 use Rattle.laws.proofs.Ordinary.{members-classes}
