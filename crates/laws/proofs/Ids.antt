@@ -111,8 +111,11 @@ step-few m (Dialed cid opened) h = still-few m (Dialed cid opened) (refl, tt)
 step-few m (Bytes cid bytes) h = still-few m (Bytes cid bytes) (bytes-still (entry_at cid.0 m) bytes)
 step-few m (Closed cid) h = still-few m (Closed cid) (refl, tt)
 step-few m (Aims targets) h = still-few m (Aims targets) (refl, tt)
-step-few m (Locals groups) h = still-few m (Locals groups) (refl, all-appended _ (map makes_ordinary (members_of (cleaned m.settings.own groups))) _
-    (mapped-still makes_ordinary (λ a. refl) _) (mapped-still provides (λ a. refl) _))
+step-few m (Locals groups) h = still-few m (Locals groups) (
+  refl,
+  all-appended _ (map makes_ordinary (members_of (cleaned m.settings.own groups))) _
+      (mapped-still makes_ordinary (λ a. refl) _) (mapped-still provides (λ a. refl) _),
+)
 step-few m (Roots job answer) h = few {ids = 0} (omega arith) (cond_both (awaits job.0 m.roots) _ _ (λ (effect : Effect). GivesNone m effect.machine)
     (λ awaited. roots-none answer m) (λ other. unchanged refl))
 step-few m (BigAims targets) h = still-few m (BigAims targets) (refl, tt)

@@ -1,10 +1,10 @@
 -- Each part of an event is lawful.
-use Rattle.std.proofs.Common.{ℕ, ◌≡◌, ◌≤◌, Bool, true, false, ◌||◌, ◌==◌, List, [], ◌∷◌, ◌++◌, Option, sym, subst, arith, nat_lt}
+use Rattle.std.proofs.Common.{ℕ, ◌≡◌, ◌≤◌, Bool, true, false, ◌||◌, ◌==◌, List, [], ◌∷◌, ◌++◌, Option, arith, nat_lt}
 use Rattle.laws.proofs.Words.{false≢true, or_left, list_any-append}
 use Rattle.laws.specs.Words.{AllByRecursion, Addr, Event, Effect, for_each, then_do, Machine, Entry, entry_at}
 use Rattle.laws.specs.Acts.{Act, ends_dial, is_closed, does, parts_from}
 use Rattle.laws.specs.AtMoves.{IsLawful, is_negotiated_entry, is_negotiated_at, is_ended_in, is_closed_by, is_up, is_hot_or_asked, is_known, promotes, activates, is_shared_in, is_provided_by, shares}
-use Rattle.laws.specs.OpenEnds.{is_open_entry, is_open_at, is_dialing_entry, goes_by_itself}
+use Rattle.laws.specs.OpenEnds.{is_open_entry, goes_by_itself}
 use Rattle.laws.specs.CarriedOut.{IsDoneByOrder}
 use Rattle.laws.specs.Parts.{IsNext, IsDone, EndsOnce, IsAccounted, IsLawfulPart, RisesBy, Arrives}
 use Rattle.laws.specs.Sends.{Speaks}
@@ -31,7 +31,6 @@ use Rattle.laws.proofs.Pruning.{ends-rightly}
 use Rattle.laws.proofs.Walk.{Finds}
 use Rattle.laws.proofs.WaitsOfParts.{waits-right, leaves-rest, is-set}
 use Rattle.laws.proofs.Rises.{NoneConnected, hot_or_asked-down, rises_nowhere, same-connected, rises_by_then}
-use Rattle.laws.proofs.Chain.{each_appended}
 use Rattle.laws.proofs.Speaks.{speaks-right, speaks_then}
 use Rattle.laws.proofs.Items.{agrees-right, responds-right}
 
@@ -39,15 +38,6 @@ use Rattle.laws.proofs.Items.{agrees-right, responds-right}
 
 negotiated-stage : (o : Option Entry) (given : Bool) → is_negotiated_entry o ≡ true → stage_of o given ≡ 3
 negotiated-stage o given h = grind (arith, h)
-
-still-negotiated : (o : Option Entry) (given : Bool) → is_open_entry o ≡ true → 3 ≤ stage_of o given → is_negotiated_entry o ≡ true
-still-negotiated o given there far = grind (arith, there, far)
-
-negotiated-open : (o : Option Entry) → is_negotiated_entry o ≡ true → is_open_entry o ≡ true
-negotiated-open o h = grind (arith, h)
-
-undone-dial : (o : Option Entry) → is_dialing_entry o ≡ true → is_negotiated_entry o ≡ false
-undone-dial o h = grind (arith, h)
 
 -- whoever was negotiated stays so, or is ended or closed
 abbrev pub EndsKnown : Event → Machine → Effect → Type 0
@@ -62,21 +52,17 @@ ClosesBy other event = Unit {0}
 ends-known : (event : Event) (act : Act) (m : Machine) → ClosesBy act event → IsNext act m → Finds act m → IsTold m (does act m) → EndsKnown event m (does act m)
 ends-known event act m closes next found told cid before =
     let effect : Effect = does act m in
-    let stage : stage_at cid m ≡ 3 = negotiated-stage (entry_at cid m) (nat_lt cid m.next_id) before in
-    let forward = (told.connections cid).forward in
-    by_open (is_open_at cid effect.machine) (is_ended_in cid effect.moves) (goes_by_itself act m cid)
-    (λ there. still-negotiated (entry_at cid effect.machine) (nat_lt cid effect.machine.next_id) there (omega (arith, stage, forward)))
-    (itself act closes) (stays-of act m next found cid (negotiated-open (entry_at cid m) before))
+    by_entry (entry_at cid m) (entry_at cid effect.machine) (nat_lt cid m.next_id) (nat_lt cid effect.machine.next_id) (is_ended_in cid effect.moves) (goes_by_itself act m cid)
+    before (told.connections cid).forward (itself act closes) (stays-of act m next found cid (grind (arith, before)))
   where
     itself : (a : Act) → ClosesBy a event → goes_by_itself a m cid ≡ true → is_closed_by cid event ≡ true
     itself (is_closed own) closes goes = closes cid goes
-    itself (ends_dial own opened) closes goes =
-        grind (arith, goes, before, undone-dial (entry_at cid m))
+    itself (ends_dial own opened) closes goes = grind (arith, goes, before)
     itself other closes goes = absurd (false≢true goes)
 
-    by_open : (there ended goes : Bool) → (there ≡ true → is_negotiated_at cid (does act m).machine ≡ true) → (goes ≡ true → is_closed_by cid event ≡ true) →
-        (there || (ended || goes)) ≡ true → (is_negotiated_at cid (does act m).machine || (ended || is_closed_by cid event)) ≡ true
-    by_open there ended goes still closed h = grind (arith, still, closed, h)
+    by_entry : (o p : Option Entry) (given still ended goes : Bool) → is_negotiated_entry o ≡ true → stage_of o given ≤ stage_of p still → (goes ≡ true → is_closed_by cid event ≡ true) →
+        (is_open_entry p || (ended || goes)) ≡ true → (is_negotiated_entry p || (ended || is_closed_by cid event)) ≡ true
+    by_entry o p given still ended goes before forward closed h = grind (arith, before, forward, closed, h)
 
 ends-once : (event : Event) (m : Machine) (effect : Effect) → IsTold m effect → EndsKnown event m effect → EndsOnce event m effect
 ends-once event m effect told accounted cid before =
@@ -134,38 +120,30 @@ providing-part {event} {m} {effect} p named =
       lawful = quiet-lawful IsLawful effect p.moves;
     }
 
-lawful-part : (event : Event) (act : Act) (m : Machine) → ClosesBy act event → IsNext act m → IsDoneByOrder act m (does act m) → Finds act m →
-    Tells event m (does act m) → IsLawfulPart event (record { act = act; before = m })
-lawful-part event act m closes next order found h = record {
-  accounted = accounted_by event m (does act m) h (ends-known event act m closes next found h.told);
-  next = next;
-  order = order;
-  book = treats-book act m;
-  classes = keeps-class act m next found;
-  known = keeps-known act m next found;
-  heats = heats-up act m;
-  forgiven = forgives act m;
-  pauses = pauses-right act m next found;
-  ends = (ends-rightly act m found).others;
-  opens = opens-once act m next found h.told;
-  pruned = (ends-rightly act m found).pruned;
-  waits = waits-right act m next found;
-  begins = waits-begin act m next found;
-  rest = leaves-rest act m next found;
-  sets = is-set act m next found;
-  over = over-after act m found;
-  goes = goes-where act m;
-  lingers = lingers act m next found h.told;
-  asks = asks-right act m next found;
-  admits = admits-right act m next found;
-  agrees = agrees-right act m found;
-  responds = responds-right act m found;
-  answers = answers-right act m found;
-  sends = sends-right act m next found;
-  speaks = speaks-right act m next found;
-  remembers = (treats act m found).remembered;
-  fails = (treats act m found).fails;
-}
+-- what is known of an act where it is done
+pub record Fits (event : Event) (act : Act) (m : Machine) : Type 0 where
+  pub closes : ClosesBy act event
+  pub next : IsNext act m
+  pub order : IsDoneByOrder act m (does act m)
+  pub found : Finds act m
+  pub tells : Tells event m (does act m)
+
+pub fits : {event : Event} {act : Act} {m : Machine} → ClosesBy act event → IsNext act m → IsDoneByOrder act m (does act m) → Finds act m → Tells event m (does act m) →
+    Fits event act m
+fits closes next order found tells = assumption
+
+ruleset of_the_book = (treats-book, keeps-class, keeps-known, heats-up, forgives, goes-where, pauses-right)
+
+ruleset of_connections = (opens-once, waits-right, waits-begin, leaves-rest, is-set, over-after, lingers, agrees-right, responds-right)
+
+ruleset of_actions = (accounted_by, ends-known, asks-right, admits-right, answers-right, sends-right, speaks-right)
+
+lawful-part : (event : Event) (act : Act) (m : Machine) → Fits event act m → IsLawfulPart event (record { act = act; before = m })
+lawful-part event act m h =
+    let told = h.tells.told in
+    let ends = ends-rightly act m h.found in
+    let remembers = treats act m h.found in
+    search (of_the_book, of_connections, of_actions)
 
 -- ---- one part after the other
 
@@ -175,40 +153,29 @@ pub record AreLawful (event : Event) (acts : List Act) (m : Machine) : Type 0 wh
   pub speaks : Speaks m (for_each does acts m)
   pub ends : EndsKnown event m (for_each does acts m)
 
-pub no_part : {event : Event} (m : Machine) → AreLawful event [] m
+abbrev pub EachFits : Event → List Act → Machine → Type 0
+EachFits event [] m = Unit {0}
+EachFits event (act ∷ acts) m = Fits event act m × EachFits event acts (does act m).machine
+
+pub are-lawful : (event : Event) (acts : List Act) (m : Machine) → EachFits event acts m → AreLawful event acts m
 unfolding parts_from for_each
-no_part {event} m = record {
+are-lawful event [] m h = record {
   each = tt;
   tells = obeys-part (obeys_nothing IsLawful m);
   speaks = record { to_open = tt; closes_last = tt };
   ends = λ cid before. or_left (is_negotiated_at cid m) (false || is_closed_by cid event) before;
 }
+are-lawful event (act ∷ acts) m h =
+    let f : Fits event act m = h.0 in
+    let rest : AreLawful event acts (does act m).machine = are-lawful event acts (does act m).machine h.1 in
+    record {
+      each = (lawful-part event act m f, rest.each);
+      tells = tells_then event m (does act m) (for_each does acts) f.tells rest.tells;
+      speaks = speaks_then m (does act m) (for_each does acts) f.tells.told (speaks-right act m f.next f.found) rest.speaks;
+      ends = stays_then is_negotiated_at (λ cid. is_closed_by cid event) m (does act m) (for_each does acts) (ends-known event act m f.closes f.next f.found f.tells.told) rest.ends;
+    }
 
-pub first_part : {event : Event} {act : Act} {acts : List Act} {m : Machine} → ClosesBy act event → IsNext act m → IsDoneByOrder act m (does act m) → Finds act m →
-    Tells event m (does act m) → AreLawful event acts (does act m).machine → AreLawful event (act ∷ acts) m
-unfolding parts_from for_each
-first_part {event} {act} {acts} {m} closes next order found h rest = record {
-  each = (lawful-part event act m closes next order found h, rest.each);
-  tells = tells_then event m (does act m) (for_each does acts) h rest.tells;
-  speaks = speaks_then m (does act m) (for_each does acts) h.told (speaks-right act m next found) rest.speaks;
-  ends = stays_then is_negotiated_at (λ cid. is_closed_by cid event) m (does act m) (for_each does acts) (ends-known event act m closes next found h.told) rest.ends;
-}
-
-pub one_part : {event : Event} {act : Act} {m : Machine} → ClosesBy act event → IsNext act m → IsDoneByOrder act m (does act m) → Finds act m →
-    Tells event m (does act m) → AreLawful event (act ∷ []) m
-one_part closes next order found h = first_part closes next order found h (no_part _)
-
-each_more : (event : Event) (xs ys : List Act) (m : Machine) → AllByRecursion (IsLawfulPart event) (parts_from xs m) →
-    AllByRecursion (IsLawfulPart event) (parts_from ys (for_each does xs m).machine) → AllByRecursion (IsLawfulPart event) (parts_from (xs ++ ys) m)
-unfolding parts_from for_each
-each_more event [] ys m one two = two
-each_more event (x ∷ xs) ys m one two = (one.0, each_more event xs ys (does x m).machine one.1 two)
-
-pub more_parts : {event : Event} (xs ys : List Act) (m : Machine) → AreLawful event xs m → AreLawful event ys (for_each does xs m).machine → AreLawful event (xs ++ ys) m
-more_parts {event} xs ys m one two = record {
-  each = each_more event xs ys m one.each two.each;
-  tells = subst (Tells event m) (sym (each_appended does xs ys m)) (tells_then event m (for_each does xs m) (for_each does ys) one.tells two.tells);
-  speaks = subst (Speaks m) (sym (each_appended does xs ys m)) (speaks_then m (for_each does xs m) (for_each does ys) one.tells.told one.speaks two.speaks);
-  ends = subst (EndsKnown event m) (sym (each_appended does xs ys m))
-      (stays_then is_negotiated_at (λ cid. is_closed_by cid event) m (for_each does xs m) (for_each does ys) one.ends two.ends);
-}
+pub fits_more : (event : Event) (xs ys : List Act) (m : Machine) → EachFits event xs m → EachFits event ys (for_each does xs m).machine → EachFits event (xs ++ ys) m
+unfolding for_each
+fits_more event [] ys m one two = two
+fits_more event (x ∷ xs) ys m one two = (one.0, fits_more event xs ys (does x m).machine one.1 two)
