@@ -19,26 +19,14 @@ anything = record { own = λ cid. true; comes = λ cid. true; drops = true; goes
 abbrev Given : Machine → Effect → Type 0
 Given m effect = GivesNone m effect.machine
 
+same-none : (m n : Machine) → numbers_of n ≡ numbers_of m → GivesNone m n
+same-none m n = unchanged
+
+never : (m n : Machine) → false ≡ true → GivesNone m n
+never m n wrong = absurd (false≢true wrong)
+
 none-kept : Kept anything Given
-none-kept = record {
-  when_nothing = λ m. unchanged refl;
-  when_both = λ m first next one two. none_then one two;
-  when_moved = λ happened m effect none h. h;
-  when_sent = λ cid bytes m may. unchanged refl;
-  when_turned = λ turn e m stands. unchanged refl;
-  when_stored = λ undecoded e m stands came. unchanged refl;
-  when_shut = λ e m stands drops. unchanged refl;
-  when_ended = λ cause e m. ending-none cause e m;
-  when_gone = λ e m itself. vanishes-none e m;
-  when_over = λ e m stands drops closed. unchanged refl;
-  when_dialed = λ addr m may. absurd (false≢true may);
-  when_admitted = λ addr m may. absurd (false≢true may);
-  when_turned_away = λ away m may. unchanged refl;
-  when_changed = λ addr change m same. turns_at-none (peer_at addr m) change m;
-  when_made = λ addr m may. turns_at-none (peer_at addr m) (λ p. record p { big = false }) m;
-  when_known = λ big addr m may. peer_comes-none big addr m;
-  when_forgotten = λ addr m may. unchanged refl;
-}
+none-kept = search (same-none, none_then, ending-none, vanishes-none, turns_at-none, peer_comes-none, never)
 
 found-none : (cid : ℕ) (act : Entry → Machine → Effect) (m : Machine) → ((e : Entry) → Stands anything e m → Given m (act e m)) → Given m (on_entry (entry_at cid m) act m)
 found-none cid act m each = on_found anything Given none-kept cid act m (λ e is. each e (found-stands anything cid m e is refl))
