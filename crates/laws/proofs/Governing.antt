@@ -61,14 +61,8 @@ governs word m h within =
     all-rules (ordinary_rules word) (ordinary-due word) first.machine one.ordered (trimmed-within IsLawful m first one) in
     let three : Governed (big_rules word) second.machine =
     all-rules (big_rules word) (big-due word) second.machine two.trimmed.ordered (trimmed-within IsLawful first.machine second two.trimmed) in
-    record {
-      trimmed = trimmed_then IsLawful m first (λ m. then_do (for_each rules (ordinary_rules word) m) (for_each rules (big_rules word))) one
-          (trimmed_then IsLawful first.machine second (for_each rules (big_rules word)) two.trimmed three.trimmed);
-      asked = one;
-      ruled = two.trimmed;
-      ordinary = two.right;
-      big = three.right;
-    }
+    assumption (trimmed_then IsLawful m first (λ m. then_do (for_each rules (ordinary_rules word) m) (for_each rules (big_rules word))) one
+    (trimmed_then IsLawful first.machine second (for_each rules (big_rules word)) two.trimmed three.trimmed))
 
 pub govern-trimmed : (word : ℕ) (m : Machine) → IsOrdered m → counted_in m ≤ m.settings.hard → Trimmed IsLawful m (govern word m)
 govern-trimmed word m h within = (governs word m h within).trimmed

@@ -86,22 +86,15 @@ accounted_by event m effect h ends = assumption (ends-once event m effect h.told
 
 tells_then : (event : Event) (m : Machine) (first : Effect) (next : Machine → Effect) → Tells event m first → Tells event first.machine (next first.machine) →
     Tells event m (then_do first next)
-tells_then event m first next one two = record {
-  told = told_then m first next one.told two.told;
-  promotions = rises_by_then is_up promotes m first next one.promotions two.promotions;
-  activations = rises_by_then is_hot_or_asked activates m first next one.activations two.activations;
-  arrivals = λ addr known. grind (arith, one.arrivals addr, two.arrivals addr known, list_any-append (λ move. shares addr move.happened) first.moves (next first.machine).moves);
-  lawful = all-appended IsLawful first.moves (next first.machine).moves one.lawful two.lawful;
-}
+tells_then event m first next one two =
+    let arrivals : Arrives event m (then_do first next) = λ addr known.
+    grind (arith, one.arrivals addr, two.arrivals addr known, list_any-append (λ move. shares addr move.happened) first.moves (next first.machine).moves) in
+    search (told_then, rises_by_then, all-appended)
 
 pub obeys-part : {event : Event} {m : Machine} {effect : Effect} → Obeys IsLawful m effect → Tells event m effect
-obeys-part {event} {m} {effect} h = record {
-  told = h.accounted.told;
-  promotions = h.accounted.promotions;
-  activations = h.accounted.activations;
-  arrivals = λ addr known. or_left (is_known addr m || is_shared_in addr effect.moves) (is_provided_by addr event) (h.accounted.arrivals addr known);
-  lawful = h.lawful;
-}
+obeys-part {event} {m} {effect} h =
+    let arrivals : Arrives event m effect = λ addr known. or_left (is_known addr m || is_shared_in addr effect.moves) (is_provided_by addr event) (h.accounted.arrivals addr known) in
+    assumption
 
 -- where peers are tied to connections
 pub trimmed-part : {event : Event} {m : Machine} {effect : Effect} → IsTied m → Trimmed IsLawful m effect → Tells event m effect
@@ -112,13 +105,8 @@ pub providing-part : {event : Event} {m : Machine} {effect : Effect} → IsProvi
     ((addr : Addr) → is_known addr effect.machine ≡ true → (is_known addr m || is_provided_by addr event) ≡ true) → Tells event m effect
 providing-part {event} {m} {effect} p named =
     let connected : NoneConnected m effect.machine = same-connected m effect.machine p.connections in
-    record {
-      told = p.told;
-      promotions = rises_nowhere is_up promotes m effect connected.up;
-      activations = rises_nowhere is_hot_or_asked activates m effect (hot_or_asked-down m effect.machine p.hot connected.asked);
-      arrivals = λ addr known. grind (arith, named addr known);
-      lawful = quiet-lawful IsLawful effect p.moves;
-    }
+    let arrivals : Arrives event m effect = λ addr known. grind (arith, named addr known) in
+    search (rises_nowhere, hot_or_asked-down, quiet-lawful)
 
 -- what is known of an act where it is done
 pub record Fits (event : Event) (act : Act) (m : Machine) : Type 0 where
@@ -168,12 +156,7 @@ are-lawful event [] m h = record {
 are-lawful event (act ∷ acts) m h =
     let f : Fits event act m = h.0 in
     let rest : AreLawful event acts (does act m).machine = are-lawful event acts (does act m).machine h.1 in
-    record {
-      each = (lawful-part event act m f, rest.each);
-      tells = tells_then event m (does act m) (for_each does acts) f.tells rest.tells;
-      speaks = speaks_then m (does act m) (for_each does acts) f.tells.told (speaks-right act m f.next f.found) rest.speaks;
-      ends = stays_then is_negotiated_at (λ cid. is_closed_by cid event) m (does act m) (for_each does acts) (ends-known event act m f.closes f.next f.found f.tells.told) rest.ends;
-    }
+    search (lawful-part, tells_then, speaks_then, speaks-right, stays_then, ends-known)
 
 pub fits_more : (event : Event) (xs ys : List Act) (m : Machine) → EachFits event xs m → EachFits event ys (for_each does xs m).machine → EachFits event (xs ++ ys) m
 unfolding for_each

@@ -69,12 +69,4 @@ steady-local m h = all-standing (λ e. e.facts.local ≡ true → is_established
     steady-established m h e.facts.addr ∙ (ap is_used_connection here ∙ and_from (is_negotiated e.facts) e.facts.local negotiated local))
 
 pub steady-lawful : (m : Machine) → IsSteady m → IsLawfulRecord m
-steady-lawful m h = assumption (
-  h,
-  steady-hot m h,
-  steady-local m h,
-  steady-established m h,
-  steady-pending m h,
-  steady-back_off m h,
-  waits-ahead m h.sound.deadlines,
-)
+steady-lawful m h = search (steady-hot, steady-local, steady-established, steady-pending, steady-back_off, waits-ahead)

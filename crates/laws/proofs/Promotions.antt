@@ -48,20 +48,7 @@ pub comes-keeps : (raised : ℕ) (f : Facts) (m : Machine) → IsOrdered m → l
 comes-keeps raised f m h none id live unused shaped other ready counted late =
     let new : Entry = fresh_entry f in
     let recounted = come-counts m new in
-    record {
-      ordered = assumption (
-        come-orderly m new h.orderly id (none_live new m none),
-        All-push (λ e. IsShaped e.facts) m.connections new h.formed.shaped shaped,
-        All-push IsOwing m.connections new h.formed.owing (nothing-owing new refl),
-        All-push (λ e. same_address e.facts.addr m.settings.own ≡ false) m.connections new h.formed.other_connections other,
-      );
-      settings = refl;
-      now = refl;
-      counted = omega (arith, recounted.counted, counted);
-      late = omega (arith, recounted.late, late);
-      classes = λ locals. locals;
-      ties = come-ties m new live none (tied_new f m.now (peer_at f.addr m) unused ready);
-    }
+    search (arith, come-orderly, none_live, All-push, nothing-owing, come-ties, tied_new)
 
 -- the connection that is admitted
 abbrev pub admitted_entry : Addr → Machine → Entry

@@ -123,12 +123,7 @@ pub formed_at_moment : (t : ℕ) (m : Machine) → IsFormed m → IsFormed (at_m
 formed_at_moment t m h = assumption
 
 later-tied : (now t : ℕ) (o : Option Peer) (e : Option Entry) → now ≤ t → TiedBy now o e → TiedBy t o e
-later-tied now t (Some p) (Some e) past tie = record {
-  established = tie.established;
-  in_use = λ local. let ready = tie.in_use local in omega (arith, ready, past);
-  on_its_way = λ pending. let ready = tie.on_its_way pending in omega (arith, ready, past);
-  asked = tie.asked;
-}
+later-tied now t (Some p) (Some e) past tie = search (arith, tie.in_use, tie.on_its_way)
 later-tied now t o e past tie = tie
 
 -- ---- each event
