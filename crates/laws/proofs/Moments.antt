@@ -79,10 +79,7 @@ one-owed : (e : Entry) → IsOwing e → (protocol : ℕ) → OnePasses (λ o. o
 one-owed e h protocol i j d before inside here = grind (arith, here, h.rises i j d before inside)
 
 reply-waited : (e : Entry) → IsOwing e → (k : ℕ) (owed : Owed) → StandsAt e.owed k owed → IsWaited e (reply_deadline e.facts.cid owed)
-reply-waited e h k owed s =
-    let found : (protocol : ℕ) → (owed.protocol == protocol) ≡ true → reply_on protocol e ≡ Some owed =
-    λ protocol on. find_only (λ o. o.protocol == protocol) owed e.owed k (one-owed e h protocol) s on in
-    grind (arith, found 2, found 8, found 10, All-stands (λ o. is_owed_on o.protocol ≡ true) e.owed k owed s h.protocols)
+reply-waited e h k owed s = search (arith, find_only, one-owed)
 
 pub due-waited : (m : Machine) (d : Deadline) → IsOrdered m → due m ≡ Some d → until_at d.kind d.cid.0 m ≡ Some d.at
 due-waited m d h is =

@@ -31,12 +31,7 @@ paid-some q protocol owed = some-before q owed (without_reply protocol owed) (Al
 -- ---- where nothing is owed
 
 pub nothing-owing : (e : Entry) → e.owed ≡ [] → IsOwing e
-nothing-owing e none = record {
-  protocols = subst (All (λ o. is_owed_on o.protocol ≡ true)) (sym none) (All-nil (λ o. is_owed_on o.protocol ≡ true));
-  rises = subst (AllPairs (λ o q. o.protocol < q.protocol)) (sym none) (λ i j d before inside. absurd (omega (arith, inside)));
-  used = λ unused. none;
-  shares = λ asked. absurd (false≢true (ap (λ owed. is_some (find (λ o. o.protocol == 10) owed)) (sym none) ∙ asked));
-}
+nothing-owing e none = search (arith, false≢true)
 
 pub record OwesNothing (e : Entry) : Type 0 where
   pub on_2 : is_some (reply_on 2 e) ≡ false
