@@ -1,7 +1,7 @@
 -- What is remembered of peers, and whose failures are forgiven, through each part of an event.
-use Rattle.std.proofs.Common.{ℕ, ◌+◌, ◌≡◌, ◌⊎◌, Bool, true, false, not, ◌&&◌, ◌||◌, ◌==◌, if◌then◌else◌, List, find, is_none, Option, Some, None, refl, sym, ap, ◌∙◌, subst, inl, inr, arith, eqb-true}
+use Rattle.std.proofs.Common.{ℕ, ◌+◌, ◌≡◌, ◌⊎◌, Bool, true, false, ◌||◌, ◌==◌, if◌then◌else◌, List, find, Option, Some, None, refl, sym, ap, ◌∙◌, subst, inl, inr, arith, eqb-true}
 use Rattle.laws.proofs.Words.{list_any_at, cond_both, both_ways, false≢true, and_parts, false_from_ne_true, not-true}
-use Rattle.laws.specs.Words.{option_map, unwrap_or, choice_of, is_candidate, is_counted, acquired, has_id, is_acquirable, is_dialing, is_live, is_live_at, is_negotiated, is_outbound, is_pending, opening_phase, runs, Order, Ask, Forget, Promote, Release, Activate, Deactivate, verdict_of, answer_of, Verdict, kind_of, CutFault, Item, same_address, failed_peer, CloseCause, Pruned, Overwritten, Refused, Query, Fault, Protocol, HandshakeWait, ReplyWait, Agreed, Addr, Facts, Phase, Greeting, Negotiated, Peer, Temp, Cold, Warm, Hot, Kind, Seen, with_entry, without_entry, is_missed, lost, ending, vanishes, acquire, candidates_in, trim, release, awake, idle, dial, fires_as, Effect, nothing_more, on_entry, closes, dialed, promoted_at, on_used, asks_peer, activates, deactivates, carries_out, role_of, judged, greets, Machine, Entry, entry_at, live_entry_at, own_info, peer_at, peer_changes, peer_fails, peer_becomes, peer_comes, is_wanted_big, owing, paid, handled_in, handled, faulted, stops_if, serves, begins, brings, talks, is_greeting_phase, Cid}
+use Rattle.laws.specs.Words.{option_map, unwrap_or, choice_of, is_candidate, acquired, has_id, is_acquirable, is_dialing, is_live, is_live_at, is_negotiated, is_pending, runs, Order, Ask, Forget, Promote, Release, Activate, Deactivate, verdict_of, answer_of, Verdict, kind_of, CutFault, Item, same_address, failed_peer, CloseCause, Pruned, Overwritten, Refused, Query, Fault, Protocol, HandshakeWait, ReplyWait, Agreed, Addr, Facts, Phase, Greeting, Negotiated, Peer, Temp, Cold, Warm, Hot, Kind, Seen, with_entry, without_entry, is_missed, lost, ending, vanishes, acquire, candidates_in, trim, release, awake, dial, fires_as, Effect, nothing_more, on_entry, closes, dialed, promoted_at, on_used, asks_peer, activates, deactivates, carries_out, role_of, judged, greets, Machine, Entry, entry_at, live_entry_at, own_info, peer_at, peer_changes, peer_fails, peer_becomes, peer_comes, is_wanted_big, owing, paid, handled_in, handled, faulted, serves, begins, brings, talks, is_greeting_phase, Cid}
 use Rattle.laws.specs.Words.verdict
 use Rattle.laws.specs.Words.kind
 use Rattle.laws.specs.Acts.{Act, fires_one, carries, ends_dial, handles_item, ends_stream, is_closed, makes_ordinary, provides, provides_big, does}
@@ -90,11 +90,7 @@ record Beside (e : Entry) (m n : Machine) : Type 0 where
   own : ((is_missed e.facts ≡ true) × (entry_at e.facts.cid.0 n ≡ None)) ⊎ Stays IsSpared (peer_at e.facts.addr m) (peer_at e.facts.addr n)
 
 still-beside : {e : Entry} {m n : Machine} → Still m n → Beside e m n
-still-beside {e} {m} {n} still = record {
-  others = λ b other. still b;
-  own = inr (spared_then (peer_at e.facts.addr m) (peer_at e.facts.addr m) (peer_at e.facts.addr n)
-      (stays_itself IsSpared (λ p. record { failures = omega arith; not_before = refl }) (peer_at e.facts.addr m)) (still e.facts.addr));
-}
+still-beside {e} {m} {n} still = search (arith, spared_then, stays_itself)
 
 same-beside : {e : Entry} {m n : Machine} → n.peers ≡ m.peers → Beside e m n
 same-beside {e} {m} {n} same = still-beside (same-still m n same)
@@ -113,10 +109,7 @@ only-same law itself a m n same = (λ b other. same-still m n same b, same-each 
 
 only-changed : (law : Peer → Peer → Type 0) (a : Addr) (change : Peer → Peer) (m : Machine) → ((p : Peer) → (change p).addr ≡ p.addr) → ((p : Peer) → law p (change p)) →
     Only law a m (peer_changes a change m).machine
-only-changed law a change m same each = (
-  changed-others a change m same,
-  subst (Stays law (peer_at a m)) (sym (changed-found a change m same)) (by_option (peer_at a m) (λ o. Stays law o (option_map change o)) (λ is. tt) (λ p is. each p)),
-)
+only-changed law a change m same each = search (arith, changed-others, changed-found)
 
 changed-still : (a : Addr) (change : Peer → Peer) (m : Machine) → ((p : Peer) → (change p).addr ≡ p.addr) → ((p : Peer) → IsRemembered p (change p)) → Still m (peer_changes a change m).machine
 changed-still = changed-each (λ a. StillAt) (λ a. still_itself)
@@ -147,13 +140,7 @@ unmissed-peers : (e : Entry) (m : Machine) → is_missed e.facts ≡ false → (
 unmissed-peers e m unmissed = rw unmissed refl
 
 candidate-unmissed : (f : Facts) → is_candidate f ≡ true → is_missed f ≡ false
-candidate-unmissed f may =
-    let parts = and_parts (is_counted f) (not f.local) may in
-    let pending : is_pending f ≡ false = false_from_ne_true (is_pending f) (λ is. both_ways (is_counted f) (uncounted is) parts.0) in
-    rw (not-true f.local parts.1, pending) refl
-  where
-    uncounted : is_pending f ≡ true → is_counted f ≡ false
-    uncounted pending = rw (pending-unnegotiated f pending, (and_parts (is_outbound f) (opening_phase f.phase) pending).0) refl
+candidate-unmissed f may = search (arith, and_parts, false_from_ne_true, both_ways, not-true, pending-unnegotiated)
 
 -- who is pruned could go, and then nobody fails, or is the one that moved
 trim-by : (Law : Machine → Type 0) (moved : Entry) (m : Machine) → IsOrderly m → entry_at moved.facts.cid.0 m ≡ Some moved → ((n : Machine) → n.peers ≡ m.peers → Law n) →
@@ -198,9 +185,7 @@ greets-beside item e m = greeted item e m (Beside e m) (λ c. ending-beside c e 
     record { others = only.0; own = inr only.1 })
 
 serves-still : (seen : Seen) (protocol : ℕ) (e : Entry) (m : Machine) → Still m (serves seen protocol e m).machine
-serves-still seen protocol e m =
-    subst (λ n. Still m (stops_if seen.done protocol e n).machine) (sym (replies-machine seen.reply protocol e m))
-    (cond_both seen.done (idle protocol e m) (nothing_more m) (λ effect. Still m effect.machine) (λ done. same-still m (idle protocol e m).machine refl) (λ on. same-still m m refl))
+serves-still seen protocol e m = search (arith, replies-machine, same-still)
 
 begins-beside : (protocol : ℕ) (m : Machine) (e : Entry) (k : ℕ) → IsOrderly m → StandsAt m.connections k e → Beside e m (begins protocol e m).machine
 begins-beside protocol m e k h s = cond_both (runs protocol e.facts.running) (nothing_more m) (awake protocol e m) (λ effect. Beside e m effect.machine)
@@ -247,12 +232,7 @@ pub record Treats (Remembered : Type 0) (m n : Machine) : Type 0 where
   pub fails : FailsOnly m n
 
 all-treated : {m n : Machine} → AllRemembered m n → Treats (AllRemembered m n) m n
-all-treated {m} {n} h = record { remembered = h; fails = λ addr kept. weaker-both IsRemembered IsSpared remembered-spared (peer_at addr m) (peer_at addr n) (h addr) }
-  where
-    weaker-both : (P Q : Peer → Peer → Type 0) → ((p q : Peer) → P p q → Q p q) → (a b : Option Peer) → WhereBoth P a b → WhereBoth Q a b
-    weaker-both P Q each (Some p) (Some q) h = each p q h
-    weaker-both P Q each None b h = tt
-    weaker-both P Q each a None h = tt
+all-treated {m} {n} h = search (arith, remembered-spared)
 
 still-treated : {m n : Machine} → Still m n → Treats (AllRemembered m n) m n
 still-treated {m} {n} still = all-treated (λ b. stays_both IsRemembered IsRemembered (λ p q h. h) (peer_at b m) (peer_at b n) (still b))
@@ -270,15 +250,7 @@ others-fail a m n others own = by_address (λ b. has_lost b m n ≡ false → Wh
 
 -- who has lost nothing that was missed has not failed
 beside-fails : (e : Entry) (k : ℕ) (m n : Machine) → StandsAt m.connections k e → Beside e m n → FailsOnly m n
-beside-fails e k m n s b = others-fail e.facts.addr m n b.others (λ kept. elim b.own [
-  | inl lost ↦ absurd (both_ways (has_lost e.facts.addr m n) kept (lost_it lost.0 lost.1))
-  | inr spared ↦ stays_both IsSpared IsSpared (λ p q h. h) (peer_at e.facts.addr m) (peer_at e.facts.addr n) spared
-])
-  where
-    lost_it : is_missed e.facts ≡ true → entry_at e.facts.cid.0 n ≡ None → has_lost e.facts.addr m n ≡ true
-    lost_it missed gone = list_any_at _ m.connections k e s.inside
-        (subst (λ x. (same_address x.facts.addr e.facts.addr && (is_missed x.facts && is_none (entry_at x.facts.cid.0 n))) ≡ true) (sym s.is)
-        (rw (same_address-self e.facts.addr, missed, gone) refl))
+beside-fails e k m n s b = search (arith, others-fail, both_ways, stays_both, list_any_at, same_address-self)
 
 beside : (cid : ℕ) (act : Entry → Machine → Effect) (m : Machine) → ((e : Entry) (k : ℕ) → StandsAt m.connections k e → Beside e m (act e m).machine) →
     Treats (RemembersBeside (entry_at cid m) m (on_entry (entry_at cid m) act m).machine) m (on_entry (entry_at cid m) act m).machine
@@ -297,10 +269,7 @@ faulted-beside (Some fault) e m = ending-beside (Fault (kind_of fault)) e m
 
 only-treated : (law : Peer → Peer → Type 0) → ((p q : Peer) → law p q → IsSpared p q) → (a : Addr) (m n : Machine) → Only law a m n →
     Treats (OthersRemembered a m n × WhereBoth law (peer_at a m) (peer_at a n)) m n
-only-treated law spares a m n only = record {
-  remembered = (others-remembered a m n only.0, stays_both law law (λ p q h. h) (peer_at a m) (peer_at a n) only.1);
-  fails = others-fail a m n only.0 (λ kept. stays_both law IsSpared spares (peer_at a m) (peer_at a n) only.1);
-}
+only-treated law spares a m n only = search (arith, others-remembered, stays_both, others-fail)
 
 asks-only : (addr : Addr) (n : ℕ) (m : Machine) → Only IsAsked addr m (on_used addr (asks_peer n) m).machine
 asks-only addr n m = used-changes (Only IsAsked) addr (asks_peer n) m (only-same IsAsked (λ p. assumption) addr m m refl)

@@ -1,7 +1,7 @@
 -- Each order does what it says, the book changes only where it is to, and accepting pauses where it must.
-use Rattle.std.proofs.Common.{ℕ, ◌+◌, ◌≡◌, Bool, true, false, ◌&&◌, nat_lt, if◌then◌else◌, [], ◌∷◌, find, get_or, set, Option, Some, None, is_some, refl, sym, ap, ◌∙◌, subst, arith}
-use Rattle.laws.proofs.Words.{cond_both, and_parts, and_from, All-weaker}
-use Rattle.laws.specs.Words.{Effect, option_map, pause_of, acquired, has_id, is_live, is_live_at, Order, Ask, Forget, Promote, Release, Activate, Deactivate, Addr, Peer, Cold, Warm, same_address, failed_peer, Cid, Facts, Pause, Overwritten, may_ask, with_entry, without_entry, lost, ending, acquire, trim, release, nothing_more, on_entry, admitted, closes, promote, is_used_at, on_used, asks_peer, deactivates, carries_out, Machine, Entry, counted_in, entry_at, live_entry_at, peer_at, turns_at, peer_changes, peer_fails, owing}
+use Rattle.std.proofs.Common.{ℕ, ◌+◌, ◌≡◌, Bool, true, false, ◌&&◌, nat_lt, if◌then◌else◌, [], ◌∷◌, find, set, Option, Some, None, is_some, refl, sym, ap, ◌∙◌, subst, arith}
+use Rattle.laws.proofs.Words.{cond_both, and_parts, and_from}
+use Rattle.laws.specs.Words.{Effect, option_map, pause_of, acquired, has_id, is_live, is_live_at, Order, Ask, Forget, Promote, Release, Activate, Deactivate, Addr, Peer, Cold, Warm, same_address, Cid, Facts, Pause, Overwritten, may_ask, with_entry, without_entry, lost, ending, acquire, trim, release, on_entry, admitted, closes, promote, is_used_at, on_used, asks_peer, deactivates, carries_out, Machine, Entry, counted_in, entry_at, live_entry_at, peer_at, turns_at, peer_changes, owing}
 use Rattle.laws.specs.AtMoves.{is_missed, FailsWhere, OnEntry}
 use Rattle.laws.specs.CarriedOut.{WhereLive, OnPeer, Reuses, IsUsedByNobody, Comes, IsCarriedOut, TreatsBook, pauses_by, pauses_in, pauses_due, PausesRight}
 use Rattle.laws.specs.Sound.{IsOrderly}
@@ -14,7 +14,6 @@ use Rattle.laws.proofs.Failures.{changed-found, vanishes-failed}
 use Rattle.laws.proofs.Finds.{find-set_gone}
 use Rattle.laws.proofs.Lawful.{stands-found}
 use Rattle.laws.proofs.Moments.{turned-found}
-use Rattle.laws.proofs.PeersApart.{by_address}
 use Rattle.laws.proofs.Lists.{StandsAt, OnePasses, FoundIn, stands-set, find_some, find_only, find_none, not_below}
 use Rattle.laws.proofs.Walk.{Finds, taken, release-machine, cooled, turned_by, is_released}
 use Rattle.laws.proofs.Orders.{unused_at}
@@ -28,10 +27,7 @@ use Rattle.laws.proofs.ItemCases.{trim-cases}
 
 -- at most one connection of an address is in local use
 pub used_one : (addr : Addr) (m : Machine) → IsOrderly m → OnePasses (is_used_at addr) m.connections
-used_one addr m h i j d before inside here =
-    let e : Entry = get_or m.connections i d in
-    let f : Entry = get_or m.connections j d in
-    ap (λ b. b && f.facts.local) (live_one addr m h.addresses i j d before inside (and_parts (is_live_at addr e.facts) e.facts.local here).0)
+used_one addr m h i j d before inside here = search (arith, live_one, and_parts)
 
 -- a change of a peer leaves the connections in order
 pub changed-orderly : (o : Option Peer) (change : Peer → Peer) (m : Machine) → IsOrderly m → IsOrderly (turns_at o change m).machine
@@ -57,18 +53,14 @@ release-none addr m h = by_option (find (is_used_at addr) m.connections)
 
 -- where none is found, no live one of the address is in local use
 none-used : (addr : Addr) (m : Machine) → find (is_used_at addr) m.connections ≡ None → IsUsedByNobody addr m
-none-used addr m none =
-    All-weaker (λ e. is_used_at addr e ≡ false) (λ e. is_live_at addr e.facts ≡ true → e.facts.local ≡ false)
-    (λ e other live. sym (ap (λ b. b && e.facts.local) live) ∙ other) m.connections (find_none (is_used_at addr) m.connections none)
+none-used addr m none = search (arith, find_none)
 
 -- ---- a peer that changes
 
 -- what is found at its address is what it turned into
 pub changed-here : (a : Addr) (change : Peer → Peer) (m : Machine) → ((p : Peer) → (change p).addr ≡ p.addr) → (law : Peer → Type 0) →
     ((p : Peer) → law (change p)) → OnPeer (peer_at a (peer_changes a change m).machine) law
-changed-here a change m same law each = subst (λ o. OnPeer o law) (sym (changed-found a change m same)) (by_option (peer_at a m)
-    (λ o. OnPeer (option_map change o) law)
-    (λ is. tt) (λ p is. each p))
+changed-here a change m same law each = search (arith, changed-found)
 
 -- ---- a connection that is taken into use
 
@@ -112,22 +104,14 @@ used-leaves addr act m law h each e live local =
 
 -- one that is cold stays so when a connection is pruned
 lost-cold : (a : Addr) (f : Facts) (m : Machine) → OnPeer (peer_at a m) (λ p. p.temp ≡ Cold) → OnPeer (peer_at a (lost f m).machine) (λ p. p.temp ≡ Cold)
-lost-cold a f m cold = cond_both (is_missed f) (peer_fails f.addr m) (nothing_more m) (λ effect. OnPeer (peer_at a effect.machine) (λ p. p.temp ≡ Cold))
-    (λ missed. by_address (λ b. OnPeer (peer_at b m) (λ p. p.temp ≡ Cold) → OnPeer (peer_at b (peer_fails f.addr m).machine) (λ p. p.temp ≡ Cold)) f.addr
-    (λ cold. changed-here f.addr fails m (λ p. refl) (λ p. p.temp ≡ Cold) (λ p. refl))
-    (λ b other cold. subst (λ o. OnPeer o (λ p. p.temp ≡ Cold)) (sym (turns_at-elsewhere f.addr fails m (λ p. refl) b other)) cold) a cold) (λ other. cold)
-  where
-    fails : Peer → Peer
-    fails = failed_peer m.now m.settings.backoff
+lost-cold a f m cold = search (arith, changed-here, turns_at-elsewhere)
 
 trim-cold : (a : Addr) (moved : Cid) (m : Machine) → OnPeer (peer_at a m) (λ p. p.temp ≡ Cold) → OnPeer (peer_at a (trim moved m).machine) (λ p. p.temp ≡ Cold)
 trim-cold a moved m cold =
     trim-cases moved m (λ effect. OnPeer (peer_at a effect.machine) (λ p. p.temp ≡ Cold)) cold (λ e is. lost-cold a e.facts (without_entry e.facts.cid.0 m) cold)
 
 releases-cools : (addr : Addr) (m : Machine) → IsOrderly m → Comes Cold addr m (carries_out (Release addr) m).machine
-releases-cools addr m h = used-leaves addr release m (λ p. p.temp ≡ Cold) h (λ e.
-    subst (λ w. OnPeer (peer_at e.facts.addr w) (λ p. p.temp ≡ Cold)) (sym (release-machine e m)) (trim-cold e.facts.addr e.facts.cid (cooled e m)
-    (changed-here e.facts.addr (λ p. record p { temp = Cold }) (with_entry (turned_by is_released e m) m) (λ p. refl) (λ p. p.temp ≡ Cold) (λ p. refl))))
+releases-cools addr m h = search (arith, used-leaves, release-machine, trim-cold, changed-here, is_released)
 
 -- ---- the book
 
@@ -154,11 +138,7 @@ notice-pauses true length = refl
 notice-pauses false length = refl
 
 admitted-pauses : (addr : Addr) (m : Machine) → pauses_in (admitted addr m).actions ≡ pauses_due m (admitted addr m).machine
-admitted-pauses addr m =
-    let n : Machine = (admitted addr m).machine in
-    let below : nat_lt m.next_id (m.next_id + 1) ≡ true = grind arith in
-    notice-pauses (nat_lt n.settings.soft (counted_in n)) (pause_of n.settings (counted_in n))
-    ∙ ap (λ b. if b && nat_lt n.settings.soft (counted_in n) then pause_of n.settings (counted_in n) ∷ [] else []) (sym below)
+admitted-pauses addr m = search (arith, notice-pauses)
 
 nobody-pauses : (m : Machine) → [] ≡ pauses_due m m
 nobody-pauses m = ap (λ b. if b && nat_lt m.settings.soft (counted_in m) then pause_of m.settings (counted_in m) ∷ [] else []) (sym (not_below m.next_id))

@@ -18,9 +18,7 @@ abbrev pub chosen : Bool → ℕ → ℕ → (Peer → Bool) → List Peer → L
 chosen big word number test peers = picks_of big word number (filter (λ p. is_of big p && test p) peers)
 
 pub chosen-apart : (big : Bool) (word number : ℕ) (test : Peer → Bool) (peers : List Peer) → ArePeersApart peers → AreApart (chosen big word number test peers)
-chosen-apart big word number test peers h =
-    let passes : Peer → Bool = λ p. is_of big p && test p in
-    picks-apart big word number (filter passes peers) (filter-apart passes peers h)
+chosen-apart big word number test peers h = search (arith, picks-apart, filter-apart)
 
 pub chosen-all : (P : Addr → Type 0) (big : Bool) (word number : ℕ) (test : Peer → Bool) (peers : List Peer) → ArePeersApart peers →
     ((p : Peer) → (is_of big p && test p) ≡ true → peer_at p.addr peers ≡ Some p → P p.addr) → AllByRecursion P (chosen big word number test peers)

@@ -1,7 +1,7 @@
 -- No more addresses come into the book than are wanted.
 use Rattle.std.proofs.Common.{◌+◌, ◌-◌, ◌≤◌, ◌<◌, ◌≡◌, Bool, false, List, [], ◌∷◌, ◌++◌, length, Option, Some, None, sym, ap, ◌∙◌, subst, arith}
 use Rattle.laws.proofs.Words.{length-take, count_by-put_in}
-use Rattle.laws.specs.Words.{AllByRecursion, Addr, Peer, is_of, known_of, new_peer, entered, room_for, is_new, taken_after, Share, Peers, Machine, Effect, Happened, shared, as_move, for_each, peer_comes, shares_address, taken_of, takes_addresses}
+use Rattle.laws.specs.Words.{AllByRecursion, Addr, Peer, known_of, new_peer, entered, room_for, is_new, taken_after, Share, Peers, Machine, Effect, Happened, shared, as_move, for_each, peer_comes, shares_address, taken_of, takes_addresses}
 use Rattle.peer_book.specs.Book.{peer_at as peer_in}
 use Rattle.laws.specs.AtMoves.{known_wanted, IsWantedNew, WithinTargets}
 use Rattle.laws.proofs.Lawful.{comes-machine, comes-providing, Within}
@@ -24,10 +24,7 @@ came big addr m = record m { peers = entered (new_peer big addr) m.peers }
 
 -- at most one more is known of its class
 entered-known : (big : Bool) (addr : Addr) (ps : List Peer) → known_of big (entered (new_peer big addr) ps) ≤ known_of big ps + 1
-entered-known big addr ps = entered-cases (new_peer big addr) ps (λ qs. known_of big qs ≤ known_of big ps + 1) (omega arith)
-    (λ absent room.
-    let count = count_by-put_in (λ p. p.addr) (is_of big) (new_peer big addr) ps in
-    omega (arith, count, one-most (is_of big (new_peer big addr))))
+entered-known big addr ps = search (arith, count_by-put_in, one-most)
 
 -- whoever was not there and is found is of its class
 entered-class : (big : Bool) (addr : Addr) (ps : List Peer) (p : Peer) → peer_in addr ps ≡ None → peer_in addr (entered (new_peer big addr) ps) ≡ Some p →

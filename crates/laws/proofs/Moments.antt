@@ -1,7 +1,7 @@
 -- Whatever is waited for is ahead, what fires is waited for, and is over then.
-use Rattle.std.proofs.Common.{ℕ, ◌<◌, ◌≡◌, true, ◌==◌, List, [], ◌∷◌, ◌++◌, map, flat_map, find, Option, Some, None, All, ap, ◌∙◌, subst, arith, cond}
+use Rattle.std.proofs.Common.{ℕ, ◌<◌, ◌≡◌, ◌==◌, List, [], ◌∷◌, ◌++◌, map, flat_map, find, Option, Some, None, All, ap, ◌∙◌, subst, arith, cond}
 use Rattle.laws.proofs.Words.{All-contains, All-head, All-tail}
-use Rattle.laws.specs.Words.{option_map, has_id, CloseCause, Grace, Off, ForRemote, ForLocal, Phase, Greeting, Closing, Deadline, Kind, timer, with_entry, without_entry, ending, deadlines_of, phase_deadlines, grace_deadlines, reply_deadline, due, Machine, Entry, Owed, entry_at, reply_on, is_owed_on, Cid}
+use Rattle.laws.specs.Words.{option_map, has_id, CloseCause, Grace, Off, ForRemote, ForLocal, Phase, Greeting, Closing, Deadline, Kind, timer, with_entry, without_entry, ending, deadlines_of, phase_deadlines, grace_deadlines, reply_deadline, due, Machine, Entry, Owed, entry_at, reply_on, Cid}
 use Rattle.laws.specs.Words.kind
 use Rattle.laws.specs.Laws.{DeadlinesAhead}
 use Rattle.laws.specs.Moments.{WaitsAhead}

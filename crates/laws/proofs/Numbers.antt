@@ -2,7 +2,7 @@
 -- peers, so each peer is dialed once at most.
 use Rattle.std.proofs.Common.{ℕ, ◌+◌, ◌≤◌, ◌≡◌, Bool, true, false, cond, not, ◌&&◌, List, [], ◌∷◌, length, count_by, Some, refl, ap, ◌∙◌, arith, ◌-◌, ◌||◌, ◌++◌, map, flat_map, sym, subst, Option, None, find}
 use Rattle.laws.proofs.Words.{sum_by-cons, sum_by-filter_both, cond_both, and_parts, and_from}
-use Rattle.laws.specs.Words.{AllByRecursion, option_map, has_address, without_peer, Addr, Group, Peer, is_of, is_listed, members_of, big_orders, is_eligible, orders_for, is_member_and, members_count, g4_orders, g5_orders, g9_orders, B5, Order, Ask, Forget, Promote, Release, Activate, Deactivate, AskRoots, is_established, may_ask, asked, Machine, Effect, nothing_more, tells, then_do, for_each, link_of, view_of, carries_out, ordinary_rules, big_rules, rules, govern, failed_peer, CloseCause, Pruned, Overwritten, Cid, Facts, Warm, new_peer, entry_of, entered, Entry, on_entry, turns_at, peer_at, peer_changes, peer_comes, with_entry, without_entry, lost, ending, vanishes, trim, owing, is_acquirable, same_address, Cold, live_entry_at, peer_goes, acquire, release, dial, promoted_at, promote, is_used_at, asks_peer, activates, deactivates}
+use Rattle.laws.specs.Words.{AllByRecursion, option_map, has_address, without_peer, Addr, Group, Peer, is_of, is_listed, members_of, big_orders, is_eligible, orders_for, is_member_and, members_count, g4_orders, g5_orders, g9_orders, B5, Order, Ask, Forget, Promote, Release, Activate, Deactivate, is_established, Machine, Effect, for_each, link_of, view_of, carries_out, ordinary_rules, big_rules, rules, govern, failed_peer, CloseCause, Pruned, Overwritten, Cid, Facts, Warm, new_peer, entry_of, entered, Entry, on_entry, turns_at, peer_at, peer_changes, peer_comes, with_entry, without_entry, lost, ending, vanishes, trim, owing, is_acquirable, same_address, Cold, live_entry_at, peer_goes, acquire, release, dial, promoted_at, promote, is_used_at, asks_peer, activates, deactivates}
 use Rattle.laws.specs.Steady.{ArePeersApart, AreApart, IsFormed, GivesFew}
 use Rattle.laws.proofs.Chosen.{chosen, chosen-all, chosen-apart, PicksMembers, picks-listed, groups_picks-apart, groups_picks-all, map-groups, picks_in, group_picks, hot_free, hot_members, g9-same}
 use Rattle.laws.proofs.Each.{weaker, weaker-both, count-cons}
@@ -61,12 +61,7 @@ pub gives_nothing : (m : Machine) → Gives 0 m m
 gives_nothing m = record { numbers = unchanged refl; groups = refl; apart = λ h. h; kept = λ a big is. is }
 
 pub gives_then : {i j : ℕ} {m n o : Machine} → Gives i m n → Gives j n o → Gives (i + j) m o
-gives_then {i} {j} first second = record {
-  numbers = gains_then i j first.numbers second.numbers;
-  groups = second.groups ∙ first.groups;
-  apart = λ h. second.apart (first.apart h);
-  kept = λ a big is. first.kept a big (second.kept a big is);
-}
+gives_then {i} {j} first second = search (arith, gains_then)
 
 pub gives_more : {i j : ℕ} {m n : Machine} → i ≤ j → Gives i m n → Gives j m n
 gives_more more h = record { numbers = record { id = omega (arith, more, h.numbers.id); job = h.numbers.job }; groups = h.groups; apart = h.apart; kept = h.kept }
@@ -360,12 +355,4 @@ rules-give word m peers members =
 
 -- each peer is dialed once at most, and the provider asked once
 pub govern-few : (word : ℕ) (m : Machine) → IsFormed m → GivesFew m (govern word m).machine
-govern-few word m h =
-    let asking : Machine = record m { roots = asked m.roots } in
-    cond_both (may_ask m.now m.targets.root m.roots)
-    (tells (AskRoots (record { 0 = m.roots.next_job }) ∷ []) asking) (nothing_more m)
-    (λ first. GivesFew m (then_do first (λ n. then_do (for_each rules (ordinary_rules word) n) (for_each rules (big_rules word)))).machine)
-    (λ too_few. let rest = rules-give word asking h.peers h.groups in
-    record { ids = omega (arith, rest.id, h.room); jobs = omega (arith, rest.job) })
-    (λ enough. let rest = rules-give word m h.peers h.groups in
-    record { ids = omega (arith, rest.id, h.room); jobs = omega (arith, rest.job) })
+govern-few word m h = search (arith, rules-give)

@@ -141,9 +141,7 @@ Surplus have wanted big addrs m = length addrs ≤ have big m.peers - wanted big
 surplus-left : (have : Bool → List Peer → ℕ) (wanted : Bool → Machine → ℕ) (big : Bool) → ((m n : Machine) → IsUnset m n → wanted big n ≡ wanted big m) →
     (order : Order) (a : Addr) (addrs : List Addr) (m : Machine) → IsOrdered m → have big m.peers ≤ have big (carries_out order m).machine.peers + 1 →
     Surplus have wanted big (a ∷ addrs) m → Surplus have wanted big addrs (carries_out order m).machine
-surplus-left have wanted big stays order a addrs m h falls left =
-    let same = stays m (carries_out order m).machine (order-unset order m h) in
-    omega (arith, falls, same, left)
+surplus-left have wanted big stays order a addrs m h falls left = search (arith, order-unset)
 
 -- one of a class at most changes its temperature
 temps-fall : (of : Temp → Bool) (big : Bool) (a : Addr) (m n : Machine) → IsOrdered m → AreSameBut a m.peers n.peers →
@@ -213,10 +211,7 @@ releases-spend big = record {
 
 -- who can share has agreed on it on the connection in use
 shares-may : (m : Machine) → IsOrdered m → (addr : Addr) → some_connection can_tell addr m ≡ true → MayAsk m addr
-shares-may m h addr can e found =
-    let tells = live-passes can_tell addr m h (λ x k s tells. negotiated-live x.facts.phase (local-negotiated x.facts (stands-shaped m x k h s) (grind (arith, tells)))) can in
-    let same : tells.0 ≡ e = some_same tells.0 e (sym (used-here addr m tells.0 h.orderly tells.1 (grind (arith, tells.2))) ∙ found) in
-    grind (arith, same, tells.2)
+shares-may m h addr can e found = search (arith, live-passes, negotiated-live, local-negotiated, stands-shaped, some_same, used-here)
 
 abbrev IsToAsk : ℕ → Peer → Type 0
 IsToAsk now p = (is_established p.temp ≡ true) × (p.share_next ≤ now)
@@ -408,13 +403,7 @@ ask-gives m p passes =
     ((grind (arith, passes), grind (arith, passes)), grind (arith, passes, linked (λ l. l.local && l.sharing && not l.owes10) p.addr m.connections))
 
 promote-gives : (m : Machine) → Gives IsRested IsFreeSeen (is_eligible m.now (links_of m)) m
-promote-gives m p passes = (
-  (is_temp p.temp Cold (grind (arith, passes)), grind (arith, passes)),
-  (
-    grind (arith, passes, linked (λ l. l.pending) p.addr m.connections),
-    grind (arith, passes, linked (λ l. true) p.addr m.connections, linked (λ l. l.acquirable) p.addr m.connections),
-  ),
-)
+promote-gives m p passes = search (arith, is_temp, linked)
 
 activate-gives : (m : Machine) → Gives (HasTemp Warm) (NonePasses is_to_answer) (may_be_activated (links_of m)) m
 activate-gives m p passes = (is_temp p.temp Warm (grind (arith, passes)), grind (arith, passes, linked (λ l. l.owes2) p.addr m.connections))

@@ -1,7 +1,7 @@
 -- The governor's orders, one by one: the connections stay in order and within the limit, and peers tied to them.
-use Rattle.std.proofs.Common.{ℕ, ◌+◌, ◌≤◌, ◌≡◌, Bool, true, false, ◌&&◌, not, ◌||◌, ◌==◌, if◌then◌else◌, [], find, set, Option, Some, None, is_some, refl, sym, ap, ◌∙◌, subst, arith}
-use Rattle.laws.proofs.Words.{cond_both, both_ways, false≢true, false_from_ne_true, and_parts, or_right}
-use Rattle.laws.specs.Words.{same_address, Addr, Facts, Peer, Cold, Warm, is_counted, released, agreed_sharing, is_live, is_live_at, is_negotiated, is_pending, Order, Ask, Forget, Release, Activate, Deactivate, is_established, Machine, Entry, counted_in, live_entry_at, Effect, Move, activated, nothing_more, then_do, as_move, on_entry, peer_at, peer_becomes, peer_was_asked, peer_goes, sends_as_initiator, owing, reply_on, peer_sharing_done, chain_sync_done, find_intersect, with_entry, entry_turns, says_done, trim, release, is_used_at, on_used, asks_peer, activates, deactivates, carries_out, written_alive, written_request, Done}
+use Rattle.std.proofs.Common.{ℕ, ◌+◌, ◌≤◌, ◌≡◌, true, false, ◌&&◌, not, ◌||◌, ◌==◌, if◌then◌else◌, find, set, Option, Some, None, is_some, refl, sym, ap, ◌∙◌, subst, arith}
+use Rattle.laws.proofs.Words.{both_ways, false≢true, false_from_ne_true, and_parts, or_right}
+use Rattle.laws.specs.Words.{same_address, Addr, Facts, Peer, Cold, Warm, is_counted, released, agreed_sharing, is_live, is_live_at, is_pending, Order, Ask, Forget, Release, Activate, Deactivate, is_established, Machine, Entry, counted_in, live_entry_at, Effect, Move, activated, nothing_more, then_do, as_move, on_entry, peer_at, peer_becomes, peer_was_asked, peer_goes, sends_as_initiator, owing, reply_on, chain_sync_done, find_intersect, with_entry, entry_turns, says_done, trim, release, is_used_at, on_used, asks_peer, activates, deactivates, carries_out, written_request}
 use Rattle.laws.specs.AtMoves.{IsReady, IsLawful, is_up_connection, is_up, is_hot_peer, is_asked_connection, is_hot_or_asked, is_known, promotes, activates as activation, shares}
 use Rattle.laws.specs.Steady.{AreTied, TiedBy, IsTied, IsOrdered}
 use Rattle.laws.proofs.Addresses.{same_address-true}
@@ -208,12 +208,7 @@ abbrev pub MayRelease : Machine → Addr → Type 0
 MayRelease m addr = (e : Entry) → find (is_used_at addr) m.connections ≡ Some e → OwesNothing e
 
 pub says_done-quiet : (f : Facts) (m : Machine) → IsQuiet m (says_done f m)
-says_done-quiet f m =
-    let sharing_done : Effect = sends_as_initiator f.cid 10 peer_sharing_done m in
-    let first : Effect = if agreed_sharing f.agreed then sharing_done else nothing_more m in
-    quiet_then m first (sends_as_initiator f.cid 8 (written_alive Done))
-    (cond_both (agreed_sharing f.agreed) sharing_done (nothing_more m) (IsQuiet m) (λ sharing. tells-quiet sharing_done.actions m refl) (λ other. tells-quiet [] m refl))
-    (tells-quiet (sends_as_initiator f.cid 8 (written_alive Done) first.machine).actions first.machine refl)
+says_done-quiet f m = search (arith, quiet_then, tells-quiet)
 
 abbrev releasing : Entry → Machine → Effect
 releasing e m = then_do (entry_turns e (record e { facts = released (m.now + m.settings.idle) e.facts }) m)
@@ -225,11 +220,7 @@ unused_at b x unused = by_bool (is_live_at b x.facts) (λ c. (c && x.facts.local
 
 -- whoever is on its way afterwards was so before
 released-down : (until : ℕ) (e : Entry) → is_up_connection (Some (record e { facts = released until e.facts })) ≡ true → is_up_connection (Some e) ≡ true
-released-down until e up = by_used (is_negotiated e.facts) e.facts.local (is_pending e.facts) up
-  where
-    by_used : (a b c : Bool) → ((a && false) || c) ≡ true → ((a && b) || c) ≡ true
-    by_used true b c is = or_right b c is
-    by_used false b c is = is
+released-down until e up = search (arith, or_right)
 
 releasing-carried : (addr : Addr) (m : Machine) (e : Entry) (k : ℕ) → Used m addr e k → MayRelease m addr → Trimmed IsLawful m (releasing e m)
 releasing-carried addr m e k u may =

@@ -1,6 +1,6 @@
 -- What is owed on a connection, through each change of it.
 use Rattle.std.proofs.Common.{ℕ, ◌+◌, ◌<◌, ◌≡◌, Bool, true, false, not, ◌==◌, nat_lt, List, [], ◌∷◌, ◌++◌, filter, find, is_some, All, AllPairs, refl, sym, ap, ◌∙◌, subst, arith, ltb-true}
-use Rattle.laws.proofs.Words.{both_ways, false≢true, All-nil, All-head, All-tail, All-cons, All-filter, All-append, All-weaker, filter_passes, AllPairs-cons, AllPairs-filter}
+use Rattle.laws.proofs.Words.{both_ways, false≢true, All-head, All-tail, All-cons, All-filter, All-append, All-weaker, filter_passes, AllPairs-cons, AllPairs-filter}
 use Rattle.laws.specs.Words.{agreed_sharing, Machine, Entry, Owed, with_reply, without_reply, reply_on, owing, paid, is_owed_on}
 use Rattle.laws.specs.Steady.{IsOwing}
 use Rattle.laws.proofs.Finds.{find-none_passes}

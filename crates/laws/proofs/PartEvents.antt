@@ -1,8 +1,8 @@
 -- The parts of each event are lawful.
-use Rattle.std.proofs.Common.{ℕ, zero, suc, ◌≤◌, ◌≡◌, Bool, true, false, ◌||◌, nat_le, if◌then◌else◌, List, [], ◌∷◌, ◌++◌, map, length, Option, refl, sym, ap, subst, arith, ◌+◌, ◌&&◌, nat_lt, Some}
+use Rattle.std.proofs.Common.{ℕ, zero, suc, ◌≤◌, ◌≡◌, Bool, true, false, ◌||◌, if◌then◌else◌, List, [], ◌∷◌, ◌++◌, map, Option, refl, sym, ap, subst, arith, ◌+◌, nat_lt, Some}
 use Rattle.laws.proofs.Words.{or_left, or_right, false≢true, All-from_recursion, cond_both, both_ways, and_from}
-use Rattle.laws.specs.Words.{AllByRecursion, has_id, is_live, is_greeting, is_negotiated, Order, FedBy, CutFault, Item, step, same_address, Addr, Cid, Event, Now, Govern, Accepted, Dialed, Bytes, Closed, Aims, Locals, Roots, BigAims, Bigs, Group, RootAnswer, Found, Failed, is_listed, cleaned, members_of, awaits, publics_of, found, with_entry, entry_turns, deadlines, due, fires, for_each, carries_out, asks_roots, ordinary_rules, big_rules, rules, Machine, Entry, counted_in, entry_at, peer_is_ordinary, comes_ordinary, comes_big, handles, connected, is_live_at, is_outbound, is_pending, is_dialing, is_dialing_phase, opening_phase, Admit, Pause, pause_of, Phase, Negotiated, Closing, Overwritten, proposal_of, Effect, Move, shared, gone, nothing_more, tells, as_move, own_info, peer_comes, sends_as_initiator, without_entry, entry_goes, entry_comes, lost, ending, vanishes, dial_fails, turned_away, pause_notice, admitted, peer_connects, peer_closes, dial_ends, is_wanted_big}
-use Rattle.laws.specs.Acts.{Act, shows, fires_one, carries, handles_item, ends_stream, sets_targets, sets_big_targets, sets_groups, sets_roots, makes_ordinary, provides, provides_big, does, fired_from, fired, orders_of, acts_at_moment, acts_fed, acts_of_bytes, acts_of_answer, acts, parts_of}
+use Rattle.laws.specs.Words.{AllByRecursion, has_id, is_live, is_greeting, is_negotiated, Order, FedBy, CutFault, Item, step, same_address, Addr, Cid, Event, Now, Govern, Accepted, Dialed, Bytes, Closed, Aims, Locals, Roots, BigAims, Bigs, Group, RootAnswer, Found, Failed, is_listed, awaits, publics_of, found, with_entry, entry_turns, due, fires, for_each, carries_out, asks_roots, ordinary_rules, big_rules, rules, Machine, Entry, counted_in, entry_at, peer_is_ordinary, comes_ordinary, comes_big, handles, connected, is_live_at, is_dialing, is_dialing_phase, Admit, Pause, pause_of, Phase, Negotiated, Closing, Overwritten, proposal_of, Effect, Move, shared, gone, nothing_more, tells, as_move, own_info, peer_comes, sends_as_initiator, without_entry, entry_goes, entry_comes, lost, ending, vanishes, dial_fails, turned_away, pause_notice, admitted, peer_connects, peer_closes, dial_ends, is_wanted_big}
+use Rattle.laws.specs.Acts.{Act, fires_one, carries, handles_item, ends_stream, sets_targets, sets_big_targets, sets_roots, makes_ordinary, provides, provides_big, does, fired_from, fired, orders_of, acts_fed, acts_of_bytes, acts_of_answer, acts, parts_of}
 use Rattle.laws.specs.AtMoves.{IsLawful, is_known, is_provided_by, fed_on, is_missed, FailsWhere, is_up_connection}
 use Rattle.laws.specs.Parts.{IsAccounted, IsLawfulEvent, IsLawfulPart}
 use Rattle.laws.specs.Sends.{Speaks}
@@ -50,9 +50,7 @@ comes_big-obeys addr m = cond_both (is_wanted_big addr m) (as_move (shared addr)
 -- ---- dials
 
 dialing-up : (m : Machine) (e : Entry) (k : ℕ) → IsOrdered m → StandsAt m.connections k e → is_dialing e.facts ≡ true → is_up_connection (Some e) ≡ true
-dialing-up m e k h s dials =
-    or_right (is_negotiated e.facts && e.facts.local) (is_pending e.facts)
-    (and_from (is_outbound e.facts) (opening_phase e.facts.phase) ((stands-shaped m e k h s).dialing dials) (dialing-opening e.facts.phase dials))
+dialing-up m e k h s dials = search (arith, or_right, and_from, stands-shaped, dialing-opening)
 
 dialing-stage : (p : Phase) → is_dialing_phase p ≡ true → stage_of_phase p ≤ 2
 dialing-stage Negotiated dials = absurd (false≢true dials)
@@ -143,12 +141,7 @@ set-part act m none connections peers next_id silent =
     obeys-part (quiet-obeys IsLawful m (does act m) (elsewhere-quiet m (does act m) none connections peers next_id (ap are_mute silent)))
 
 clock-parts : (t : ℕ) (m : Machine) → IsOrdered m → EachFits (Now t) (acts m (Now t)) m
-clock-parts t m h =
-    let n : Machine = record m { now = t } in
-    let ordered : IsOrdered n = record { orderly = at_moment-orderly t m h.orderly; formed = formed_at_moment t m h.formed } in
-    by_bool (nat_le t m.now) (λ b. EachFits (Now t) (if b then [] else acts_at_moment t m) m)
-    (λ is. tt)
-    (λ is. (fits tt tt tt tt (set-part (shows t) m refl refl refl refl refl), fired-parts (Now t) (length (deadlines n)) n ordered))
+clock-parts t m h = search (arith, at_moment-orderly, formed_at_moment, fits, set-part, fired-parts)
 
 -- ---- the governor
 
@@ -239,14 +232,7 @@ all-listed whole (a ∷ addrs) among = (
 )
 
 locals-parts : (groups : List Group) (m : Machine) → EachFits (Locals groups) (acts m (Locals groups)) m
-locals-parts groups m =
-    let kept : List Group = cleaned m.settings.own groups in
-    let members : List Addr = members_of kept in
-    let n : Machine = record m { groups = kept } in
-    let rest = fits_more (Locals groups) (map makes_ordinary members) (map provides members) n (ordinary-parts (Locals groups) members n)
-    (provided-parts (Locals groups) members (for_each does (map makes_ordinary members) n).machine
-    (all-listed (members_of groups) members (λ a. cleaned-listed a (m.settings.own ∷ []) groups))) in
-    (fits tt tt tt tt (set-part (sets_groups kept) m refl refl refl refl refl), rest)
+locals-parts groups m = search (arith, fits_more, ordinary-parts, provided-parts, all-listed, cleaned-listed, fits, set-part)
 
 roots-parts : (event : Event) (answer : RootAnswer) (m : Machine) → ((a : Addr) (ttl : ℕ) (addrs : List Addr) → answer ≡ Found ttl addrs → is_listed a addrs ≡ true → is_provided_by a event ≡ true) →
     EachFits event (acts_of_answer answer m) m

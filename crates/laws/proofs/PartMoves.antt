@@ -3,7 +3,7 @@ use Rattle.std.proofs.Common.{ℕ, ◌≡◌, ◌≤◌, Bool, true, false, ◌|
 use Rattle.laws.proofs.Words.{false≢true, or_left, list_any-append}
 use Rattle.laws.specs.Words.{AllByRecursion, Addr, Event, Effect, for_each, then_do, Machine, Entry, entry_at}
 use Rattle.laws.specs.Acts.{Act, ends_dial, is_closed, does, parts_from}
-use Rattle.laws.specs.AtMoves.{IsLawful, is_negotiated_entry, is_negotiated_at, is_ended_in, is_closed_by, is_up, is_hot_or_asked, is_known, promotes, activates, is_shared_in, is_provided_by, shares}
+use Rattle.laws.specs.AtMoves.{IsLawful, is_negotiated_entry, is_negotiated_at, is_ended_in, is_closed_by, is_up, is_hot_or_asked, is_known, promotes, activates, is_provided_by, shares}
 use Rattle.laws.specs.OpenEnds.{is_open_entry, goes_by_itself}
 use Rattle.laws.specs.CarriedOut.{IsDoneByOrder}
 use Rattle.laws.specs.Parts.{IsNext, IsDone, EndsOnce, IsAccounted, IsLawfulPart, RisesBy, Arrives}
@@ -30,7 +30,7 @@ use Rattle.laws.proofs.Telling.{told_then}
 use Rattle.laws.proofs.Pruning.{ends-rightly}
 use Rattle.laws.proofs.Walk.{Finds}
 use Rattle.laws.proofs.WaitsOfParts.{waits-right, leaves-rest, is-set}
-use Rattle.laws.proofs.Rises.{NoneConnected, hot_or_asked-down, rises_nowhere, same-connected, rises_by_then}
+use Rattle.laws.proofs.Rises.{hot_or_asked-down, rises_nowhere, same-connected, rises_by_then}
 use Rattle.laws.proofs.Speaks.{speaks-right, speaks_then}
 use Rattle.laws.proofs.Items.{agrees-right, responds-right}
 
@@ -92,9 +92,7 @@ tells_then event m first next one two =
     search (told_then, rises_by_then, all-appended)
 
 pub obeys-part : {event : Event} {m : Machine} {effect : Effect} → Obeys IsLawful m effect → Tells event m effect
-obeys-part {event} {m} {effect} h =
-    let arrivals : Arrives event m effect = λ addr known. or_left (is_known addr m || is_shared_in addr effect.moves) (is_provided_by addr event) (h.accounted.arrivals addr known) in
-    assumption
+obeys-part {event} {m} {effect} h = search (arith, or_left)
 
 -- where peers are tied to connections
 pub trimmed-part : {event : Event} {m : Machine} {effect : Effect} → IsTied m → Trimmed IsLawful m effect → Tells event m effect
@@ -103,10 +101,7 @@ trimmed-part tied h = obeys-part (record { lawful = h.lawful tied; accounted = h
 -- it provides only whom the event names
 pub providing-part : {event : Event} {m : Machine} {effect : Effect} → IsProviding m effect →
     ((addr : Addr) → is_known addr effect.machine ≡ true → (is_known addr m || is_provided_by addr event) ≡ true) → Tells event m effect
-providing-part {event} {m} {effect} p named =
-    let connected : NoneConnected m effect.machine = same-connected m effect.machine p.connections in
-    let arrivals : Arrives event m effect = λ addr known. grind (arith, named addr known) in
-    search (rises_nowhere, hot_or_asked-down, quiet-lawful)
+providing-part {event} {m} {effect} p named = search (arith, same-connected, rises_nowhere, hot_or_asked-down, quiet-lawful)
 
 -- what is known of an act where it is done
 pub record Fits (event : Event) (act : Act) (m : Machine) : Type 0 where

@@ -79,10 +79,7 @@ found-other own a (q ∷ ps) p h found = grind (arith, found, h.0, same_address-
 
 -- a peer in place of the one with its address
 pub with_peer-book : (own : Addr) (new : Peer) (ps : List Peer) → IsBook own ps → IsBook own (with_peer new ps)
-with_peer-book own new ps h =
-    let same = length-map ps (λ p. if has_address new.addr p then new else p) in
-    let room : length (with_peer new ps) ≤ most_peers = omega (arith, same, h.room) in
-    assumption (with_peer-apart new ps h.apart, with_peer-others new own ps h.others)
+with_peer-book own new ps h = search (arith, length-map, with_peer-apart, with_peer-others)
 
 -- a new one
 with_new-longer : (new : Peer) (ps : List Peer) → length (with_new new ps) ≡ length ps + 1
@@ -98,7 +95,4 @@ entered-book own new ps other h = entered-cases new ps (IsBook own) h (λ none r
 
 -- some go
 pub filter-book : (own : Addr) (q : Peer → Bool) (ps : List Peer) → IsBook own ps → IsBook own (filter q ps)
-filter-book own q ps h =
-    let fewer = filter-within q ps in
-    let room : length (filter q ps) ≤ most_peers = omega (arith, fewer, h.room) in
-    assumption (filter-apart q ps h.apart, filter-all (λ x. same_address x.addr own ≡ false) q ps h.others)
+filter-book own q ps h = search (arith, filter-within, filter-apart, filter-all)

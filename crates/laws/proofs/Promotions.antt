@@ -1,9 +1,9 @@
 -- A connection comes: one that a peer opens, or one that this node dials where it promotes a peer that has none to take into use.
 use Rattle.std.proofs.Common.{ℕ, ◌≡◌, true, false, not, ◌&&◌, ◌||◌, List, [], ◌∷◌, map, find, Option, Some, None, refl, sym, ap, ◌∙◌, subst, arith, is_some, Bool, ◌+◌, ◌≤◌, nat_le, All}
-use Rattle.laws.proofs.Words.{both_ways, and_parts, list_any_none, false≢true, false_from_ne_true, All-push, All-weaker}
+use Rattle.laws.proofs.Words.{both_ways, and_parts, list_any_none, false≢true, false_from_ne_true, All-push}
 use Rattle.laws.specs.Words.{same_address, Addr, Peer, dialing, acquired, is_live, is_live_at, is_acquirable, is_negotiated, Promote, Machine, Entry, fresh_entry, live_entry_at, peer_at, acquire, dial, Effect, Move, promoted, as_move, promoted_at, list_any, Facts, accepted, is_pending, admitted}
 use Rattle.laws.specs.AtMoves.{IsReady, is_up_connection, is_up, is_asked_connection, is_hot_or_asked, is_known, promotes, activates, shares, some_connection}
-use Rattle.laws.specs.Steady.{IsOrdered, IsShaped, IsOwing, TiedBy}
+use Rattle.laws.specs.Steady.{IsOrdered, IsShaped, TiedBy}
 use Rattle.laws.proofs.Addresses.{same_address-true, same_address-self}
 use Rattle.laws.proofs.Keeping.{Keeps}
 use Rattle.laws.proofs.Lawful.{Accounts, Obeys, IsAllowed, as_move-obeys, promoted-obeys}
@@ -28,9 +28,7 @@ use Rattle.laws.proofs.Settings.{handshake-positive}
 
 -- no live connection has its address
 none_live : (new : Entry) (m : Machine) → live_entry_at new.facts.addr m ≡ None → All (λ e. DifferInAddress e new) m.connections
-none_live new m none = All-weaker (λ e. is_live_at new.facts.addr e.facts ≡ false) (λ e. DifferInAddress e new)
-    (λ e other e_live new_live same. grind (arith, other, e_live, same, same_address-self new.facts.addr)) m.connections
-    (find_none (λ e. is_live_at new.facts.addr e.facts) m.connections none)
+none_live new m none = search (arith, same_address-self, find_none)
 
 -- where this node is on its way, the peer is out of its back-off
 tied_new : (f : Facts) (now : ℕ) (o : Option Peer) → f.local ≡ false → (is_pending f ≡ true → IsReady now o) → TiedBy now o None → TiedBy now o (Some (fresh_entry f))

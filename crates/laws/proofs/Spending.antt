@@ -1,7 +1,7 @@
 -- A move at one address raises what is counted by one at most.
-use Rattle.std.proofs.Common.{ℕ, zero, suc, ◌+◌, ◌%◌, ◌≤◌, ◌≡◌, Bool, true, false, cond, ◌&&◌, if◌then◌else◌, set, List, [], ◌∷◌, ◌++◌, find, count_by, Option, Some, refl, sym, ap, ◌∙◌, subst, arith}
+use Rattle.std.proofs.Common.{ℕ, zero, suc, ◌+◌, ◌≤◌, ◌≡◌, Bool, true, false, cond, ◌&&◌, if◌then◌else◌, set, List, [], ◌∷◌, ◌++◌, find, count_by, Option, Some, refl, sym, ap, ◌∙◌, subst, arith}
 use Rattle.laws.proofs.Words.{both_ways, cond_both, and_parts}
-use Rattle.laws.specs.Words.{list_any, AllByRecursion, option_map, same_address, Addr, Group, Peer, Warm, dialing, acquired, is_live, is_live_at, is_acquirable, has_address, is_of, with_peer, is_listed, Machine, Entry, fresh_entry, live_entry_at, owing, turns_at, peer_at, with_entry, acquire, dial, promoted_at, promote, is_used_at, activates, activate, on_entry, peer_changes, Effect, on_used}
+use Rattle.laws.specs.Words.{list_any, AllByRecursion, option_map, same_address, Addr, Group, Peer, is_live, is_live_at, is_acquirable, has_address, is_of, with_peer, is_listed, Machine, Entry, live_entry_at, owing, turns_at, peer_at, with_entry, acquire, dial, promoted_at, promote, is_used_at, activates, activate, on_entry, peer_changes, Effect, on_used}
 use Rattle.peer_book.specs.Book.{peer_at as peer_in}
 use Rattle.laws.specs.AtMoves.{some_connection, number_with, members_with}
 use Rattle.laws.specs.Steady.{ArePeersApart, IsOrdered}
@@ -159,16 +159,10 @@ nothing-changes a m = record { peers = all_same a m.peers; connections = λ test
 -- ---- a promotion
 
 dial-changes : (addr : Addr) (m : Machine) → ChangesAt addr m (dial addr m).machine
-dial-changes addr m = record {
-  peers = all_same addr m.peers;
-  connections = λ test b other. pushed-same test b (fresh_entry (dialing m.next_id addr)) m.connections (same_turned b addr other);
-}
+dial-changes addr m = search (arith, all_same, pushed-same, same_turned)
 
 acquire-changes : (m : Machine) (e : Entry) (k : ℕ) → IsOrdered m → StandsAt m.connections k e → ChangesAt e.facts.addr m (acquire e m).machine
-acquire-changes m e k h s =
-    let new : Entry = owing 8 (e.facts.cid.0 % 65536) m (record e { facts = acquired e.facts }) in
-    changed-changes e.facts.addr (λ p. record p { temp = Warm; failures = 0 }) m (with_entry new m)
-    (turned-changes m e new k h s (record { same_id = refl; same_addr = refl; live = λ l. l })) refl h.formed.peers (λ p. refl) (λ p. refl)
+acquire-changes m e k h s = search (arith, changed-changes, turned-changes)
 
 pub promote-changes : (addr : Addr) (m : Machine) → IsOrdered m → ChangesAt addr m (promote addr m).machine
 promote-changes addr m h = by_option (live_entry_at addr m) (λ o. ChangesAt addr m (promoted_at o addr m).machine)

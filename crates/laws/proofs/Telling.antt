@@ -5,7 +5,7 @@ use Rattle.laws.specs.Words.{Action, Turnaway, Send, Pause, AskRoots, CloseCause
 use Rattle.peer_book.specs.Book.{peer_at as peer_in}
 use Rattle.laws.specs.Stages.{stage_of_phase, stage_of, stage_at, stage_ended, causes_by, causes_in, IsOneEnd}
 use Rattle.laws.specs.Telling.{KeepsAddress, GoesOn, IsTold}
-use Rattle.laws.specs.InActions.{End, Given, closed_by, closes_in, ended_by, ends_in, dialed_by, dials_in, promoted_by_dial, dial_promotions_in, given_by, given_in, CountUp, HasAddress, AreAt, LeadTo, temp_of, temp_at, notes_by, notes_in, noted, is_change, state_at, names_by, names_in, is_other_name, same_state, state_of}
+use Rattle.laws.specs.InActions.{End, Given, closes_in, ended_by, ends_in, dials_in, promoted_by_dial, dial_promotions_in, given_in, CountUp, HasAddress, AreAt, LeadTo, temp_of, temp_at, notes_in, noted, is_change, names_in, is_other_name, same_state, state_of}
 
 -- ---- one after the other
 
@@ -86,33 +86,10 @@ one_end_on cs (d ∷ e ∷ ds) a b c early late one two = elim two [ ]
 
 pub goes_on_then : (cid : ℕ) (m : Machine) (first : Effect) (next : Machine → Effect) → GoesOn cid m first → GoesOn cid first.machine (next first.machine) →
     GoesOn cid m (then_do first next)
-goes_on_then cid m first next one two =
-    let second : Effect = next first.machine in
-    record {
-      names = rw (flat_map-append (names_by cid) first.actions second.actions)
-          (leads_on is_other_name same_state _ (state_at cid first.machine) _ (names_in cid first.actions) (names_in cid second.actions) one.names two.names);
-      address = keeps_then (entry_at cid m) (entry_at cid first.machine) (entry_at cid second.machine) _ _ _ one.forward two.forward one.address two.address;
-      forward = omega (arith, one.forward, two.forward);
-      ends = rw (causes-append cid first.moves second.moves)
-          (one_end_on (causes_in cid first.moves) (causes_in cid second.moves) _ (stage_at cid first.machine) _ one.forward two.forward one.ends two.ends);
-    }
+goes_on_then cid m first next one two = search (arith, flat_map-append, leads_on, keeps_then, causes-append, one_end_on)
 
 pub told_then : (m : Machine) (first : Effect) (next : Machine → Effect) → IsTold m first → IsTold first.machine (next first.machine) → IsTold m (then_do first next)
-told_then m first next one two =
-    let second : Effect = next first.machine in
-    record {
-      closes = both_joined closed_by ends_of_move first.actions second.actions first.moves second.moves one.closes two.closes;
-      dials = both_joined dialed_by (λ move. promoted_by_dial move.happened move.before.next_id move.after.next_id) first.actions second.actions first.moves
-          second.moves one.dials two.dials;
-      given = rw (flat_map-append given_by first.actions second.actions)
-          (counts_on _ first.machine.next_id _ (given_in first.actions) (given_in second.actions) one.given two.given);
-      addresses = rw (flat_map-append given_by first.actions second.actions) (all_at (given_in first.actions) (given_in second.actions) second.machine
-          (all_still_at m.next_id (given_in first.actions) first.machine second.machine one.given (λ cid. (two.connections cid).forward)
-          (λ cid. (two.connections cid).address) one.addresses) two.addresses);
-      peers = λ addr. rw (flat_map-append (notes_by addr) first.actions second.actions)
-          (leads_on is_change noted _ (temp_at addr first.machine) _ (notes_in addr first.actions) (notes_in addr second.actions) (one.peers addr) (two.peers addr));
-      connections = λ cid. goes_on_then cid m first next (one.connections cid) (two.connections cid);
-    }
+told_then m first next one two = search (arith, both_joined, flat_map-append, counts_on, all_at, all_still_at, leads_on, goes_on_then)
 
 -- ---- what tells nothing
 
@@ -134,16 +111,7 @@ pub record IsUnchanged (before after : Machine) : Type 0 where
 pub went_on : (cid : ℕ) (m : Machine) (effect : Effect) (o p : Option Entry) → entry_at cid m ≡ o → entry_at cid effect.machine ≡ p → effect.moves ≡ [] →
     KeepsAddress o p → LeadTo is_other_name same_state (state_of o) (names_in cid effect.actions) (state_of p) →
     stage_of o (nat_lt cid m.next_id) ≤ stage_of p (nat_lt cid effect.machine.next_id) → GoesOn cid m effect
-went_on cid m effect o p was now none address names forward =
-    let before : stage_at cid m ≡ stage_of o (nat_lt cid m.next_id) = ap (λ x. stage_of x (nat_lt cid m.next_id)) was in
-    let after : stage_at cid effect.machine ≡ stage_of p (nat_lt cid effect.machine.next_id) = ap (λ x. stage_of x (nat_lt cid effect.machine.next_id)) now in
-    record {
-      names = subst (λ x. LeadTo is_other_name same_state (state_of x) (names_in cid effect.actions) (state_at cid effect.machine)) (sym was)
-          (subst (λ x. LeadTo is_other_name same_state (state_of o) (names_in cid effect.actions) (state_of x)) (sym now) names);
-      address = subst (λ x. KeepsAddress x (entry_at cid effect.machine)) (sym was) (subst (λ x. KeepsAddress o x) (sym now) address);
-      forward = omega (arith, before, after, forward);
-      ends = subst (λ ms. IsOneEnd (causes_in cid ms) (stage_at cid m) (stage_at cid effect.machine)) (sym none) tt;
-    }
+went_on cid m effect o p was now none address names forward = search arith
 
 -- one of which nothing is told, as it was
 pub went_untold : (cid : ℕ) (m : Machine) (effect : Effect) → entry_at cid effect.machine ≡ entry_at cid m → effect.moves ≡ [] → names_in cid effect.actions ≡ [] →
@@ -171,28 +139,7 @@ mute-none = record { closes = refl; dials = refl; given = refl; notes = λ addr.
 -- a move that is neither an end nor a dial
 pub told_move : (happened : Happened) (m : Machine) (effect : Effect) → ended_by happened ≡ [] → promoted_by_dial happened m.next_id effect.machine.next_id ≡ [] →
     IsTold m effect → IsTold m (as_move happened m effect)
-told_move happened m effect no_end no_dial h =
-    let move : Move = record { happened = happened; before = m; after = effect.machine } in
-    let ends : ends_in effect.moves ≡ ends_in (effect.moves ++ move ∷ []) =
-    sym (append-nothing (ends_in effect.moves) (ends_in (move ∷ [])) (ap (λ l. l ++ []) no_end)) ∙ sym (flat_map-append ends_of_move effect.moves (move ∷ [])) in
-    record {
-      closes = h.closes ∙ ends;
-      dials = h.dials
-          ∙ (sym (append-nothing (dial_promotions_in effect.moves) (dial_promotions_in (move ∷ [])) (ap (λ l. l ++ []) no_dial))
-          ∙ sym (flat_map-append (λ x. promoted_by_dial x.happened x.before.next_id x.after.next_id) effect.moves (move ∷ [])));
-      given = h.given;
-      addresses = h.addresses;
-      peers = h.peers;
-      connections = λ cid. record {
-        names = (h.connections cid).names;
-        address = (h.connections cid).address;
-        forward = (h.connections cid).forward;
-        ends = subst (λ es. IsOneEnd (flat_map (causes_by cid) es) (stage_at cid m) (stage_at cid effect.machine)) ends (h.connections cid).ends;
-      };
-    }
-  where
-    append-nothing : {X : Type 0} (xs ys : List X) → ys ≡ [] → xs ++ ys ≡ xs
-    append-nothing xs ys none = ap (λ l. xs ++ l) none ∙ append-nil xs
+told_move happened m effect no_end no_dial h = search (arith, flat_map-append, append-nil)
 
 -- ---- what is sent, put off, or asked of others
 

@@ -138,9 +138,7 @@ ordered_of m h = record { orderly = h.sound.orderly; formed = h.formed }
 
 steady_after : {m n : Machine} → IsSteady m → IsOrdered n → n.settings ≡ m.settings → counted_in n ≤ m.settings.hard → late_in n ≤ late_in m → IsTied n →
     LocalsAreOrdinary n → StaysSteady m n
-steady_after {m} {n} h ordered settings counted late tied locals =
-    let none : late_in m ≡ 0 = ahead-none_late m h.sound.deadlines in
-    assumption (ordered, subst (λ s. counted_in n ≤ s.hard) (sym settings) counted, none_late-ahead n (omega (arith, late, none)))
+steady_after {m} {n} h ordered settings counted late tied locals = search (arith, ahead-none_late, none_late-ahead)
 
 trimmed-steady : {m : Machine} {effect : Effect} → IsSteady m → Trimmed IsLawful m effect → StaysSteady m effect.machine
 trimmed-steady h t = steady_after h t.ordered t.settings t.counted t.late (t.ties h.tied) (t.classes h.locals)
