@@ -1,7 +1,7 @@
 -- Each order does what it says, the book changes only where it is to, and accepting pauses where it must.
-use Rattle.std.proofs.Common.{ℕ, ◌+◌, ◌≡◌, Bool, true, false, ◌&&◌, nat_lt, if◌then◌else◌, [], ◌∷◌, find, set, Option, Some, None, is_some, refl, sym, ap, ◌∙◌, subst, arith}
+use Rattle.std.proofs.Common.{ℕ, ◌≡◌, Bool, true, false, ◌&&◌, nat_lt, if◌then◌else◌, [], ◌∷◌, find, set, Option, Some, None, is_some, refl, sym, ap, ◌∙◌, subst, arith}
 use Rattle.laws.proofs.Words.{cond_both, and_parts, and_from}
-use Rattle.laws.specs.Words.{Effect, option_map, pause_of, acquired, has_id, is_live, is_live_at, Order, Ask, Forget, Promote, Release, Activate, Deactivate, Addr, Peer, Cold, Warm, same_address, Cid, Facts, Pause, Overwritten, may_ask, with_entry, without_entry, lost, ending, acquire, trim, release, on_entry, admitted, closes, promote, is_used_at, on_used, asks_peer, deactivates, carries_out, Machine, Entry, counted_in, entry_at, live_entry_at, peer_at, turns_at, peer_changes, owing}
+use Rattle.laws.specs.Words.{Effect, option_map, pause_of, acquired, has_id, is_live, is_live_at, Order, Ask, Forget, Promote, Release, Activate, Deactivate, Addr, Peer, Cold, Warm, same_address, Cid, Facts, Pause, Overwritten, may_ask, with_entry, without_entry, lost, ending, acquire, trim, release, on_entry, admitted, closes, promote, is_used_at, on_used, deactivates, carries_out, Machine, Entry, counted_in, entry_at, live_entry_at, peer_at, turns_at, peer_changes}
 use Rattle.laws.specs.AtMoves.{is_missed, FailsWhere, OnEntry}
 use Rattle.laws.specs.CarriedOut.{WhereLive, OnPeer, Reuses, IsUsedByNobody, Comes, IsCarriedOut, TreatsBook, pauses_by, pauses_in, pauses_due, PausesRight}
 use Rattle.laws.specs.Sound.{IsOrderly}
@@ -152,10 +152,7 @@ pauses-right other m next found = part-silent pauses_by pauses-deaf (λ cid byte
 -- ---- each order
 
 pub carried-out : (order : Order) (m : Machine) → IsOrderly m → IsCarriedOut order m (carries_out order m)
-carried-out (Ask addr n) m h =
-    let gap : ℕ = m.now + m.settings.sharegap in
-    used-leaves addr (asks_peer n) m (λ p. p.share_next ≡ gap) h
-    (λ e. changed-here e.facts.addr (λ p. record p { share_next = gap }) (with_entry (owing 10 n m e) m) (λ p. refl) (λ p. p.share_next ≡ gap) (λ p. refl))
+carried-out (Ask addr n) m h = search (arith, used-leaves, changed-here)
 carried-out (Forget addr) m h = ap is_some (taken-here addr m.peers)
 carried-out (Promote addr) m h = (promote-move addr m, reuses addr m h)
 carried-out (Release addr) m h = (none-used addr (carries_out (Release addr) m).machine (release-none addr m h), releases-cools addr m h)

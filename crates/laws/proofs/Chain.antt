@@ -1,10 +1,9 @@
 -- An event is its parts, one after the other.
 use Rattle.std.proofs.Common.{ℕ, zero, suc, ◌≡◌, Bool, nat_le, if◌then◌else◌, List, [], ◌∷◌, ◌++◌, map, Option, Some, None, refl, sym, ◌∙◌, arith}
 use Rattle.laws.proofs.Words.{append-nil, append_assoc}
-use Rattle.laws.specs.Words.{Order, FedBy, Action, Addr, Cid, Event, Now, Govern, Accepted, Dialed, Bytes, Closed, Aims, Locals, Roots, BigAims, Bigs, Group, RootAnswer, Found, Failed, cleaned, members_of, awaits, publics_of, found, due, fires, fires_some, fire_due, Effect, Move, nothing_more, on_entry, then_do, for_each, clock_shows, carries_out, asks_roots, ordinary_rules, big_rules, rules, govern, Machine, Entry, entry_at, peer_is_ordinary, comes_ordinary, comes_big, roots_say, handles, fed_with, comes_in, step}
-use Rattle.laws.specs.Acts.{Act, carries, connects, ends_dial, stores, handles_item, ends_stream, is_closed, sets_targets, sets_big_targets, provides, provides_big, does, fired_from, fired, orders_of, acts_at_moment, acts_fed, acts_of_bytes, acts_of_groups, acts_of_answer, acts}
+use Rattle.laws.specs.Words.{Order, FedBy, Action, Cid, Event, Now, Govern, Accepted, Dialed, Bytes, Closed, Aims, Locals, Roots, BigAims, Bigs, Group, RootAnswer, Found, Failed, cleaned, members_of, awaits, fires, fire_due, Effect, Move, nothing_more, on_entry, then_do, for_each, clock_shows, carries_out, asks_roots, ordinary_rules, big_rules, rules, govern, Machine, Entry, entry_at, peer_is_ordinary, comes_ordinary, comes_big, roots_say, handles, fed_with, comes_in, step}
+use Rattle.laws.specs.Acts.{Act, carries, connects, ends_dial, stores, handles_item, ends_stream, is_closed, sets_targets, sets_big_targets, provides_big, does, fired, orders_of, acts_at_moment, acts_fed, acts_of_bytes, acts_of_groups, acts_of_answer, acts}
 use Rattle.laws.specs.AtMoves.{fed_on}
-use Rattle.laws.proofs.Cases.{by_option}
 
 -- ---- one after the other
 
@@ -47,10 +46,7 @@ no_act m = refl
 fired-chain : (n : ℕ) (m : Machine) → fire_due n m ≡ for_each fires (fired n m) m
 unfolding fire_due fired for_each
 fired-chain zero m = refl
-fired-chain (suc n) m = by_option (due m)
-    (λ o. ((w : Machine) → fire_due n w ≡ for_each fires (fired n w) w) → fires_some o (fire_due n) m ≡ for_each fires (fired_from o (fired n) m) m)
-    (λ is later. refl)
-    (λ d is later. then_same (fires d m) (fire_due n) (for_each fires (fired n (fires d m).machine)) (later (fires d m).machine)) (fired-chain n)
+fired-chain (suc n) m = search (arith, then_same, fired-chain n)
 
 clock-chain : (t : ℕ) (m : Machine) → clock_shows t m ≡ for_each does (if nat_le t m.now then [] else acts_at_moment t m) m
 unfolding for_each
@@ -103,9 +99,7 @@ locals-chain kept m = search (arith, each_mapped, each_appended)
 
 answer-chain : (answer : RootAnswer) (m : Machine) → roots_say answer m ≡ for_each does (acts_of_answer answer m) m
 unfolding for_each
-answer-chain (Found ttl addrs) m =
-    let publics : List Addr = publics_of m.settings.own m.targets.root addrs in
-    sym (each_mapped provides comes_ordinary (λ a w. refl) publics (record m { roots = found m.now ttl publics m.roots }))
+answer-chain (Found ttl addrs) m = search (arith, each_mapped)
 answer-chain Failed m = refl
 
 roots-chain : (b : Bool) (answer : RootAnswer) (m : Machine) →

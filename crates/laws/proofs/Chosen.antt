@@ -22,11 +22,7 @@ chosen-apart big word number test peers h = search (arith, picks-apart, filter-a
 
 pub chosen-all : (P : Addr → Type 0) (big : Bool) (word number : ℕ) (test : Peer → Bool) (peers : List Peer) → ArePeersApart peers →
     ((p : Peer) → (is_of big p && test p) ≡ true → peer_at p.addr peers ≡ Some p → P p.addr) → AllByRecursion P (chosen big word number test peers)
-chosen-all P big word number test peers apart gives =
-    let passes : Peer → Bool = λ p. is_of big p && test p in
-    picks-all P big word number (filter passes peers)
-    (weaker-both (filter passes peers) gives (filter-passing passes peers)
-    (filter-all (λ p. peer_at p.addr peers ≡ Some p) passes peers (all-found peers apart)))
+chosen-all P big word number test peers apart gives = search (arith, picks-all, weaker-both, filter-passing, filter-all, all-found)
 
 -- ---- of each group
 

@@ -18,18 +18,12 @@ unlisted_append a before more h = or_parts (is_listed a before) (is_listed a mor
 pub first_places-none : (before addrs : List Addr) → NoneListed before (first_places before addrs)
 unfolding first_places
 first_places-none before [] = tt
-first_places-none before (a ∷ addrs) =
-    let kept : NoneListed before (first_places (before ++ a ∷ []) addrs) =
-    weaker (first_places (before ++ a ∷ []) addrs) (λ x h. (unlisted_append x before (a ∷ []) h).0) (first_places-none (before ++ a ∷ []) addrs) in
-    grind (arith, first_places-none before addrs, kept)
+first_places-none before (a ∷ addrs) = search (arith, weaker, unlisted_append, first_places-none (before ++ a ∷ []) addrs, first_places-none before addrs)
 
 first_places-apart : (before addrs : List Addr) → AreApart (first_places before addrs)
 unfolding first_places
 first_places-apart before [] = tt
-first_places-apart before (a ∷ addrs) =
-    let others : AllByRecursion (λ x. same_address x a ≡ false) (first_places (before ++ a ∷ []) addrs) = weaker (first_places (before ++ a ∷ []) addrs)
-    (λ x h. (or_parts (same_address x a) false (unlisted_append x before (a ∷ []) h).1).0) (first_places-none (before ++ a ∷ []) addrs) in
-    grind (arith, first_places-apart before addrs, first_places-apart (before ++ a ∷ []) addrs, others)
+first_places-apart before (a ∷ addrs) = search (arith, weaker, or_parts, unlisted_append, first_places-none, first_places-apart before addrs, first_places-apart (before ++ a ∷ []) addrs)
 
 -- ---- all groups
 
@@ -43,10 +37,7 @@ cleaned-none before (g ∷ groups) =
 
 pub append-apart : (xs ys : List Addr) → AreApart xs → AreApart ys → AllByRecursion (λ z. is_listed z xs ≡ false) ys → AreApart (xs ++ ys)
 append-apart [] ys h k n = k
-append-apart (x ∷ xs) ys h k n = (
-  all-appended (λ z. same_address z x ≡ false) xs ys h.0 (weaker ys (λ z none. (or_parts (same_address z x) (is_listed z xs) none).0) n),
-  append-apart xs ys h.1 k (weaker ys (λ z none. (or_parts (same_address z x) (is_listed z xs) none).1) n),
-)
+append-apart (x ∷ xs) ys h k n = search (arith, all-appended, weaker, or_parts, append-apart xs ys h.1 k (weaker ys (λ z none. (or_parts (same_address z x) (is_listed z xs) none).1) n))
 
 cleaned_after-apart : (before : List Addr) (groups : List Group) → AreApart (members_of (cleaned_after before groups))
 unfolding cleaned_after

@@ -1,7 +1,7 @@
 -- No more addresses come into the book than are wanted.
 use Rattle.std.proofs.Common.{◌+◌, ◌-◌, ◌≤◌, ◌<◌, ◌≡◌, Bool, false, List, [], ◌∷◌, ◌++◌, length, Option, Some, None, sym, ap, ◌∙◌, subst, arith}
 use Rattle.laws.proofs.Words.{length-take, count_by-put_in}
-use Rattle.laws.specs.Words.{AllByRecursion, Addr, Peer, known_of, new_peer, entered, room_for, is_new, taken_after, Share, Peers, Machine, Effect, Happened, shared, as_move, for_each, peer_comes, shares_address, taken_of, takes_addresses}
+use Rattle.laws.specs.Words.{AllByRecursion, Addr, Peer, known_of, new_peer, entered, Share, Peers, Machine, Effect, Happened, shared, as_move, for_each, peer_comes, shares_address, takes_addresses}
 use Rattle.peer_book.specs.Book.{peer_at as peer_in}
 use Rattle.laws.specs.AtMoves.{known_wanted, IsWantedNew, WithinTargets}
 use Rattle.laws.proofs.Lawful.{comes-machine, comes-providing, Within}
@@ -54,7 +54,5 @@ shares-within (a ∷ addrs) m h =
     (let most = entered-known false a m.peers in omega (arith, h, most))))
 
 pub takes-within : (o : Option Share) (m : Machine) → AllByRecursion Within (takes_addresses o m).moves
-takes-within (Some (Peers told)) m =
-    let most = length-take (room_for (known_wanted false m) m.peers) (taken_after [] (is_new m.settings.own m.settings.version m.peers) told) in
-    shares-within (taken_of told m) m (omega (arith, most))
+takes-within (Some (Peers told)) m = search (arith, length-take, shares-within)
 takes-within other m = tt

@@ -1,11 +1,10 @@
 -- The orders of each rule may be carried out, one after the other: each is due, and there are ids left, since all of them together
 -- give out few.
-use Rattle.std.proofs.Common.{ℕ, ◌+◌, ◌^◌, ◌≤◌, ◌≡◌, true, not, ◌||◌, List, [], ◌∷◌, ◌++◌, IsSomeAnd, sym, subst, arith, ap}
-use Rattle.laws.specs.Words.{Cold, is_acquirable, Order, Ask, Forget, Promote, Release, Machine, counted_in, for_each, peer_at, carries_out, asks_roots, ordinary_rules, big_rules, rules}
+use Rattle.std.proofs.Common.{ℕ, ◌+◌, ◌^◌, ◌≤◌, ◌≡◌, List, [], ◌∷◌, ◌++◌, IsSomeAnd, sym, subst, arith, ap}
+use Rattle.laws.specs.Words.{Cold, Order, Ask, Forget, Promote, Release, Machine, counted_in, for_each, peer_at, carries_out, asks_roots, ordinary_rules, big_rules, rules}
 use Rattle.laws.specs.Acts.{orders_of}
-use Rattle.laws.specs.AtMoves.{some_connection}
 use Rattle.laws.specs.OrderNeeds.{MayGovern, MayCarry, MayAll, MayFollow}
-use Rattle.laws.specs.Ordered.{is_any, MayBeForgotten, MayBePromoted, IsOne, IsDueOrder}
+use Rattle.laws.specs.Ordered.{MayBeForgotten, IsOne, IsDueOrder}
 use Rattle.laws.specs.Steady.{IsOrdered}
 use Rattle.laws.proofs.Cases.{by_option}
 use Rattle.laws.proofs.Chain.{rules-chain}
@@ -22,12 +21,7 @@ due-may : (order : Order) (m : Machine) → IsOrdered m → m.next_id ≤ 2 ^ 48
 due-may (Ask addr n) m h few due = tt
 due-may (Forget addr) m h few due = by_option (peer_at addr m) (λ o. IsOne o (λ p. MayBeForgotten addr p m) → IsSomeAnd o (λ p. p.temp ≡ Cold))
     (λ is never. elim never [ ]) (λ p is one. one.cold) due
-due-may (Promote addr) m h few due = record {
-  free = free-may addr m h (by_option (peer_at addr m)
-      (λ o. IsOne o (λ p. MayBePromoted addr p m) → (not (some_connection is_any addr m) || some_connection (λ e. is_acquirable e.facts) addr m) ≡ true)
-      (λ is never. elim never [ ]) (λ p is one. one.free) due);
-  few_ids = few;
-}
+due-may (Promote addr) m h few due = search (arith, free-may)
 due-may (Release addr) m h few due = tt
 due-may other m h few due = tt
 
@@ -36,20 +30,12 @@ due-may other m h few due = tt
 rises : (orders : List Order) (m : Machine) → AreRight orders m → m.next_id ≤ (for_each carries_out orders m).machine.next_id
 unfolding for_each
 rises [] m h = omega arith
-rises (o ∷ orders) m h =
-    let first = (order-waits o m h.0.ordered).next in
-    let rest = rises orders (carries_out o m).machine h.1 in
-    omega (arith, first, rest)
+rises (o ∷ orders) m h = search (arith, order-waits, rises orders (carries_out o m).machine h.1)
 
 all-may : (orders : List Order) (m : Machine) → AreRight orders m → (for_each carries_out orders m).machine.next_id ≤ 2 ^ 48 → MayAll orders m
 unfolding MayAll for_each
 all-may [] m h few = tt
-all-may (o ∷ orders) m h few =
-    let first = (order-waits o m h.0.ordered).next in
-    let rest = rises orders (carries_out o m).machine h.1 in (
-      due-may o m h.0.ordered (omega (arith, first, rest, few)) h.0.due,
-      all-may orders (carries_out o m).machine h.1 few,
-    )
+all-may (o ∷ orders) m h few = search (arith, order-waits, rises, due-may, all-may orders (carries_out o m).machine h.1 few)
 
 both-may : (xs ys : List Order) (m : Machine) → MayAll (xs ++ ys) m → MayAll xs m × MayAll ys (for_each carries_out xs m).machine
 unfolding MayAll for_each

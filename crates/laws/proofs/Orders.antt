@@ -176,11 +176,7 @@ pub record MayForget (m : Machine) (addr : Addr) : Type 0 where
 cold-alone : (now : ℕ) (p : Option Peer) (o : Option Entry) → IsCold p → ((e : Entry) → o ≡ Some e → is_pending e.facts ≡ false) → TiedBy now p o → TiedBy now None o
 cold-alone now None o cold idle tie = elim cold [ ]
 cold-alone now (Some p) None cold idle tie = tt
-cold-alone now (Some p) (Some e) cold idle tie = record {
-  unused = sym tie.established ∙ ap is_established cold;
-  not_dialed = idle e refl;
-  not_asked = false_from_ne_true (is_some (reply_on 2 e)) (λ is. let never : Cold ≡ Warm = sym cold ∙ tie.asked is in absurd cc);
-}
+cold-alone now (Some p) (Some e) cold idle tie = search (arith, false_from_ne_true)
 
 cold-there : (o : Option Peer) → IsCold o → is_some o ≡ true
 cold-there None cold = elim cold [ ]

@@ -25,9 +25,7 @@ turned-ordinary : (a : Addr) (change : Peer → Peer) (m : Machine) → ((p : Pe
     ((p : Peer) → p.big ≡ false → (change p).big ≡ false) → (o : Option Peer) → peer_at a m ≡ o → (b : Addr) →
     IsOrdinaryIn m.peers b → IsOrdinaryIn (turns_at o change m).machine.peers b
 turned-ordinary a change m same keeps None is b h = h
-turned-ordinary a change m same keeps (Some p) is b h =
-    with_peer-ordinary (change p) p m.peers
-    (subst (λ x. peer_in x m.peers ≡ Some p) (sym (same p ∙ found-addr a m.peers p is)) is) (keeps p) b h
+turned-ordinary a change m same keeps (Some p) is b h = search (arith, with_peer-ordinary, found-addr)
 
 -- ---- all local peers
 

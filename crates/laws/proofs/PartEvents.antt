@@ -208,9 +208,7 @@ bytes-parts cid bytes m h within tied = by_option (entry_at cid.0 m) (λ o. Each
 
 ordinary-parts : (event : Event) (addrs : List Addr) (m : Machine) → EachFits event (map makes_ordinary addrs) m
 ordinary-parts event [] m = tt
-ordinary-parts event (a ∷ addrs) m =
-    let quiet = changes-quiet a (λ p. record p { big = false }) m (record { addr = λ p. refl; hot = λ p hot. hot }) in
-    (fits tt tt tt tt (obeys-part (quiet-obeys IsLawful m (peer_is_ordinary a m) quiet)), ordinary-parts event addrs (peer_is_ordinary a m).machine)
+ordinary-parts event (a ∷ addrs) m = search (arith, changes-quiet, fits, obeys-part, quiet-obeys, ordinary-parts event addrs (peer_is_ordinary a m).machine)
 
 provided-parts : (event : Event) (addrs : List Addr) (m : Machine) → AllByRecursion (λ a. is_provided_by a event ≡ true) addrs → EachFits event (map provides addrs) m
 provided-parts event [] m named = tt
@@ -226,10 +224,7 @@ provided-parts event (a ∷ addrs) m named = (fits tt tt tt tt (providing-part (
 
 all-listed : (whole addrs : List Addr) → ((a : Addr) → is_listed a addrs ≡ true → is_listed a whole ≡ true) → AllByRecursion (λ a. is_listed a whole ≡ true) addrs
 all-listed whole [] among = tt
-all-listed whole (a ∷ addrs) among = (
-  among a (or_left (same_address a a) (is_listed a addrs) (same_address-self a)),
-  all-listed whole addrs (λ b later. among b (or_right (same_address b a) (is_listed b addrs) later)),
-)
+all-listed whole (a ∷ addrs) among = search (arith, or_left, same_address-self, or_right, all-listed whole addrs (λ b later. among b (or_right (same_address b a) (is_listed b addrs) later)))
 
 locals-parts : (groups : List Group) (m : Machine) → EachFits (Locals groups) (acts m (Locals groups)) m
 locals-parts groups m = search (arith, fits_more, ordinary-parts, provided-parts, all-listed, cleaned-listed, fits, set-part)

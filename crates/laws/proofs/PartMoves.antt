@@ -148,10 +148,7 @@ are-lawful event [] m h = record {
   speaks = record { to_open = tt; closes_last = tt };
   ends = λ cid before. or_left (is_negotiated_at cid m) (false || is_closed_by cid event) before;
 }
-are-lawful event (act ∷ acts) m h =
-    let f : Fits event act m = h.0 in
-    let rest : AreLawful event acts (does act m).machine = are-lawful event acts (does act m).machine h.1 in
-    search (lawful-part, tells_then, speaks_then, speaks-right, stays_then, ends-known)
+are-lawful event (act ∷ acts) m h = search (arith, lawful-part, tells_then, speaks_then, speaks-right, stays_then, ends-known, are-lawful event acts (does act m).machine h.1)
 
 pub fits_more : (event : Event) (xs ys : List Act) (m : Machine) → EachFits event xs m → EachFits event ys (for_each does xs m).machine → EachFits event (xs ++ ys) m
 unfolding for_each

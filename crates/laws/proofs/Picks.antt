@@ -87,6 +87,4 @@ pub picks-all : (P : Addr → Type 0) (big : Bool) (word number : ℕ) (candidat
     AllByRecursion P (picks_of big word number candidates)
 picks-all P false word number candidates h =
     least-all P (scores_below word) number (addresses_of candidates) (all-map P (λ p. p.addr) candidates h)
-picks-all P true word number candidates h =
-    all-map P (λ r. r.addr) (least_by (rates_below word) number (map rated_of candidates))
-    (least-all (λ r. P r.addr) (rates_below word) number (map rated_of candidates) (all-map (λ r. P r.addr) rated_of candidates h))
+picks-all P true word number candidates h = search (arith, all-map, least-all)

@@ -33,12 +33,7 @@ none_live new m none = search (arith, same_address-self, find_none)
 -- where this node is on its way, the peer is out of its back-off
 tied_new : (f : Facts) (now : ℕ) (o : Option Peer) → f.local ≡ false → (is_pending f ≡ true → IsReady now o) → TiedBy now o None → TiedBy now o (Some (fresh_entry f))
 tied_new f now None unused ready tie = record { unused = unused; not_dialed = false_from_ne_true (is_pending f) (λ is. elim (ready is) [ ]); not_asked = refl }
-tied_new f now (Some p) unused ready tie = record {
-  established = tie ∙ sym unused;
-  in_use = λ local. absurd (both_ways f.local unused local);
-  on_its_way = ready;
-  asked = λ asked. absurd (false≢true asked);
-}
+tied_new f now (Some p) unused ready tie = search (arith, both_ways, false≢true)
 
 pub comes-keeps : (raised : ℕ) (f : Facts) (m : Machine) → IsOrdered m → live_entry_at f.addr m ≡ None → f.cid.0 ≡ m.next_id → is_live f ≡ true → f.local ≡ false →
     IsShaped f → same_address f.addr m.settings.own ≡ false → (is_pending f ≡ true → IsReady m.now (peer_at f.addr m)) → counted_of (fresh_entry f) ≤ raised →

@@ -69,10 +69,7 @@ listed_in group addrs = count_by (λ a. is_listed a group.members) addrs
 pub none_in-each : (addrs : List Addr) (groups : List Group) → AllByRecursion (λ a. is_listed a (members_of groups) ≡ false) addrs →
     AllByRecursion (λ group. listed_in group addrs ≡ 0) groups
 none_in-each addrs [] h = tt
-none_in-each addrs (g ∷ groups) h = (
-  count_none (λ a. is_listed a g.members) addrs (weaker addrs (λ a none. (unlisted_append a g.members (members_of groups) none).0) h),
-  none_in-each addrs groups (weaker addrs (λ a none. (unlisted_append a g.members (members_of groups) none).1) h),
-)
+none_in-each addrs (g ∷ groups) h = search (arith, count_none, weaker, unlisted_append, none_in-each addrs groups (weaker addrs (λ a none. (unlisted_append a g.members (members_of groups) none).1) h))
 
 -- of all picks only a group's own are its members
 pub own_picks : (pick : Group → List Addr) (groups : List Group) → PicksMembers pick → AreApart (members_of groups) →
