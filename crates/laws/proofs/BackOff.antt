@@ -60,8 +60,7 @@ still_itself : (o : Option Peer) → StillAt o o
 still_itself = stays_itself IsRemembered (λ p. assumption)
 
 still_then : (a b c : Option Peer) → StillAt a b → StillAt b c → StillAt a c
-still_then = stays_then IsRemembered IsRemembered IsRemembered
-    (λ p q r one two. record { failures = two.failures ∙ one.failures; not_before = two.not_before ∙ one.not_before; share_next = two.share_next ∙ one.share_next })
+still_then = search (arith, stays_then)
 
 abbrev Still : Machine → Machine → Type 0
 Still = AtEach (λ a. StillAt)
@@ -81,8 +80,7 @@ remembered-spared : (p q : Peer) → IsRemembered p q → IsSpared p q
 remembered-spared p q h = record { failures = let same = h.failures in omega arith; not_before = h.not_before }
 
 spared_then : (a b c : Option Peer) → Stays IsSpared a b → StillAt b c → Stays IsSpared a c
-spared_then = stays_then IsSpared IsRemembered IsSpared
-    (λ p q r one two. record { failures = let few = one.failures in let same = two.failures in omega arith; not_before = two.not_before ∙ one.not_before })
+spared_then = search (arith, stays_then)
 
 -- What happens on a connection leaves all other peers; and its own has lost it, while it was missed, or has not failed.
 record Beside (e : Entry) (m n : Machine) : Type 0 where

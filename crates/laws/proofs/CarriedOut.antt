@@ -157,5 +157,4 @@ carried-out (Forget addr) m h = ap is_some (taken-here addr m.peers)
 carried-out (Promote addr) m h = (promote-move addr m, reuses addr m h)
 carried-out (Release addr) m h = (none-used addr (carries_out (Release addr) m).machine (release-none addr m h), releases-cools addr m h)
 carried-out (Activate addr) m h = activate-move addr m
-carried-out (Deactivate addr) m h = used-leaves addr deactivates m (λ p. p.temp ≡ Warm) h
-    (λ e. changed-here e.facts.addr (λ p. record p { temp = Warm }) m (λ p. refl) (λ p. p.temp ≡ Warm) (λ p. refl))
+carried-out (Deactivate addr) m h = search (arith, used-leaves, changed-here)

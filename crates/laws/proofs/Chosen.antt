@@ -76,8 +76,7 @@ groups_picks-all P pick (g ∷ groups) each = all-appended P (pick g) (flat_map 
 pub map-groups : (order : Addr → Order) (pick : Group → List Addr) (groups : List Group) →
     flat_map (λ g. map order (pick g)) groups ≡ map order (flat_map pick groups)
 map-groups order pick [] = refl
-map-groups order pick (g ∷ groups) =
-    ap (λ orders. map order (pick g) ++ orders) (map-groups order pick groups) ∙ sym (map-append order (pick g) (flat_map pick groups))
+map-groups order pick (g ∷ groups) = search (arith, map-append, map-groups order pick groups)
 
 -- the picks of each group
 abbrev pub picks_in : ℕ → (Group → ℕ) → (Peer → Bool) → List Peer → Group → List Addr

@@ -46,8 +46,7 @@ class_itself act o = of_kept act o o (keeps_itself (brings_class act) o)
 classed : (act : Act) (m : Machine) → IsNext act m → Finds act m → (addr : Addr) → is_made_ordinary act addr ≡ false → IsOfClass act (peer_at addr m) (peer_at addr (does act m).machine)
 classed (carries (Forget a)) m next found addr other =
     goes-each (λ x. IsOfClass (carries (Forget a))) (λ x. class_itself (carries (Forget a))) a m (λ p. tt) addr
-classed (makes_ordinary a) m next found addr other =
-    subst (IsOfClass (makes_ordinary a) (peer_at addr m)) (sym (turns_at-elsewhere a (λ p. record p { big = false }) m (λ p. refl) addr other)) (class_itself (makes_ordinary a) (peer_at addr m))
+classed (makes_ordinary a) m next found addr other = search (arith, turns_at-elsewhere, class_itself)
 classed act m next found addr other =
     of_kept act (peer_at addr m) (peer_at addr (does act m).machine) (book-walk act m (λ a. Keeps (brings_class act)) next found (record {
       itself = λ a. keeps_itself (brings_class act);

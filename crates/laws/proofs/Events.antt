@@ -11,12 +11,10 @@ use Rattle.laws.proofs.Firing.{fire_all-lowers, fire_all-none_late}
 
 -- no deadline is late exactly where every deadline is above now
 pub ahead-none_late : (m : Machine) → DeadlinesAhead m → late_in m ≡ 0
-ahead-none_late m h = count_none (is_late m.now) (deadlines m) (recursion_from_All (λ d. is_late m.now d ≡ false) (deadlines m)
-    (All-weaker (λ d. m.now < d.at) (λ d. is_late m.now d ≡ false) (λ d above. lt-leb d.at m.now above) (deadlines m) h))
+ahead-none_late m h = search (arith, count_none, recursion_from_All, lt-leb)
 
 pub none_late-ahead : (m : Machine) → late_in m ≡ 0 → DeadlinesAhead m
-none_late-ahead m none = All-weaker (λ d. is_late m.now d ≡ false) (λ d. m.now < d.at)
-    (λ d ahead. leb-false d.at m.now ahead) (deadlines m) (count_by-none (is_late m.now) (deadlines m) none)
+none_late-ahead m none = search (arith, count_by-none)
 
 -- what an event does to a sound record: it is sound again, under the same settings
 pub record StaysSound (before after : Machine) : Type 0 where

@@ -14,8 +14,7 @@ use Rattle.laws.proofs.PeersApart.{entered-cases}
 -- a part that is one move
 pub move-within : (happened : Happened) (before : Machine) (effect : Effect) → effect.moves ≡ [] → WithinTargets happened before effect.machine →
     AllByRecursion Within (as_move happened before effect).moves
-move-within happened before effect none within =
-    subst (λ moves. AllByRecursion Within (moves ++ record { happened = happened; before = before; after = effect.machine } ∷ [])) (sym none) (within, tt)
+move-within happened before effect none within = search arith
 
 -- ---- an address comes into the book
 
@@ -34,8 +33,7 @@ entered-class big addr ps p none = entered-cases (new_peer big addr) ps (λ qs. 
     (λ absent room here. ap (λ q. q.big) (some_same p (new_peer big addr) (sym here ∙ put_in-here (new_peer big addr) ps none)))
 
 came-within : (big : Bool) (addr : Addr) (m : Machine) → known_of big m.peers < known_wanted big m → IsWantedNew addr m (came big addr m)
-came-within big addr m fewer none p found =
-    grind (arith, fewer, entered-class big addr m.peers p none found, entered-known big addr m.peers)
+came-within big addr m fewer none p found = search (arith, entered-class, entered-known)
 
 pub comes-wanted : (big : Bool) (addr : Addr) (m : Machine) → known_of big m.peers < known_wanted big m → IsWantedNew addr m (peer_comes big addr m).machine
 comes-wanted big addr m fewer = subst (IsWantedNew addr m) (sym (comes-machine big addr m)) (came-within big addr m fewer)

@@ -98,8 +98,7 @@ pub gone-none : (cid : ℕ) (m : Machine) → entry_at cid (without_entry cid m)
 gone-none cid m = grind (arith, gone-found cid cid m.connections)
 
 pub ending-none : (cause : CloseCause) (e : Entry) (m : Machine) → entry_at e.facts.cid.0 (ending cause e m).machine ≡ None
-ending-none cause e m =
-    ap (find (λ x. has_id e.facts.cid.0 x.facts)) (lost_by-quiet cause e.facts (without_entry e.facts.cid.0 m)).connections ∙ gone-none e.facts.cid.0 m
+ending-none cause e m = search (arith, lost_by-quiet, gone-none)
 
 -- where one is found, what it turned into is
 pub turned-found : (e new : Entry) (m : Machine) → new.facts.cid ≡ e.facts.cid → entry_at e.facts.cid.0 (with_entry new m) ≡ option_map (λ x. new) (entry_at e.facts.cid.0 m)

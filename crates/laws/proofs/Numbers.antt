@@ -107,8 +107,7 @@ turns_at-none None change m = unchanged refl
 turns_at-none (Some p) change m = unchanged refl
 
 pub peer_comes-none : (big : Bool) (addr : Addr) (m : Machine) → GivesNone m (peer_comes big addr m).machine
-peer_comes-none big addr m =
-    rw (note-machine (entry_of addr m.peers) addr (record m { peers = entered (new_peer big addr) m.peers })) (unchanged refl)
+peer_comes-none big addr m = search (arith, note-machine, unchanged)
 
 pub for_each-none : {X : Type 0} (act : X → Machine → Effect) → ((x : X) (m : Machine) → GivesNone m (act x m).machine) → (xs : List X) (m : Machine) →
     GivesNone m (for_each act xs m).machine
@@ -161,23 +160,19 @@ ids_of (Promote addr) = 1
 ids_of other = 0
 
 carries-gives : (order : Order) (m : Machine) → Gives (ids_of order) m (carries_out order m).machine
-carries-gives (Ask addr number) m = on_entry-gives 0 (asks_peer number)
-    (λ e n. turn-gives (owing 10 number n e) e.facts.addr (λ p. record p { share_next = n.now + n.settings.sharegap }) n (λ p. refl) (λ p. refl)) (find (is_used_at addr) m.connections) m
+carries-gives (Ask addr number) m = search (arith, on_entry-gives, turn-gives)
 carries-gives (Forget addr) m = peer_goes-gives addr m
 carries-gives (Promote addr) m = promote-gives addr m
 carries-gives (Release addr) m = on_entry-gives 0 release release-gives (find (is_used_at addr) m.connections) m
-carries-gives (Activate addr) m =
-    on_entry-gives 0 activates (λ e n. connections-gives (with_entry (owing 2 0 n e) n).connections n) (find (is_used_at addr) m.connections) m
-carries-gives (Deactivate addr) m =
-    on_entry-gives 0 deactivates (λ e n. changes-gives e.facts.addr (λ p. record p { temp = Warm }) n (λ p. refl) (λ p. refl)) (find (is_used_at addr) m.connections) m
+carries-gives (Activate addr) m = search (arith, on_entry-gives, connections-gives)
+carries-gives (Deactivate addr) m = search (arith, on_entry-gives, changes-gives)
 
 -- orders that give none
 pub still-gives : (order : Addr → Order) → ((addr : Addr) → ids_of (order addr) ≡ 0) → (addrs : List Addr) (m : Machine) →
     Gives 0 m (for_each carries_out (map order addrs) m).machine
 unfolding for_each
 still-gives order none [] m = gives_nothing m
-still-gives order none (a ∷ addrs) m =
-    gives_then (subst (λ ids. Gives ids m (carries_out (order a) m).machine) (none a) (carries-gives (order a) m)) (still-gives order none addrs (carries_out (order a) m).machine)
+still-gives order none (a ∷ addrs) m = search (arith, gives_then, carries-gives, still-gives order none addrs (carries_out (order a) m).machine)
 
 pub promotes-gives : (addrs : List Addr) (m : Machine) → Gives (length addrs) m (for_each carries_out (map Promote addrs) m).machine
 unfolding for_each

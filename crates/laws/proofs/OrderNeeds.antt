@@ -19,8 +19,7 @@ use Rattle.laws.proofs.RootsAsked.{roots-set}
 
 due-may : (order : Order) (m : Machine) → IsOrdered m → m.next_id ≤ 2 ^ 48 → IsDueOrder order m → MayCarry order m
 due-may (Ask addr n) m h few due = tt
-due-may (Forget addr) m h few due = by_option (peer_at addr m) (λ o. IsOne o (λ p. MayBeForgotten addr p m) → IsSomeAnd o (λ p. p.temp ≡ Cold))
-    (λ is never. elim never [ ]) (λ p is one. one.cold) due
+due-may (Forget addr) m h few due = search arith
 due-may (Promote addr) m h few due = search (arith, free-may)
 due-may (Release addr) m h few due = tt
 due-may other m h few due = tt

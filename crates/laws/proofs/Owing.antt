@@ -11,8 +11,7 @@ use Rattle.laws.proofs.Cases.{by_bool, by_option}
 
 -- where each fails if each did before, whatever is found was found before
 some-before : (q : Owed → Bool) (xs ys : List Owed) → (All (λ o. q o ≡ false) xs → All (λ o. q o ≡ false) ys) → is_some (find q ys) ≡ true → is_some (find q xs) ≡ true
-some-before q xs ys fails h = by_option (find q xs) (λ o. is_some o ≡ true)
-    (λ none. sym (ap is_some (find-none_passes q ys (fails (find_none q xs none)))) ∙ h) (λ o is. refl)
+some-before q xs ys fails h = search (arith, find-none_passes, find_none)
 
 -- a reply of another kind than the one that comes to be owed was owed before it
 pub with_reply-some : (q : Owed → Bool) (new : Owed) (owed : List Owed) → q new ≡ false →

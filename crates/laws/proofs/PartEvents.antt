@@ -88,8 +88,7 @@ dial_ends-obeys cid opened m h = dialed-cases cid opened m (Obeys IsLawful m) (o
 
 -- accepting pauses or not
 pause-quiet : (m : Machine) → IsQuiet m (tells (pause_notice m) m)
-pause-quiet m = cond_both (nat_lt m.settings.soft (counted_in m)) (Pause (pause_of m.settings (counted_in m)) ∷ []) [] (λ actions. IsQuiet m (tells actions m))
-    (λ pauses. tells-quiet (Pause (pause_of m.settings (counted_in m)) ∷ []) m refl) (λ goes_on. tells-quiet [] m refl)
+pause-quiet m = search (arith, tells-quiet)
 
 admitted-told : (addr : Addr) (m : Machine) → IsOrderly m → IsTold m (admitted addr m)
 admitted-told addr m h =
@@ -137,8 +136,7 @@ fired-parts event (suc n) m h = by_option (due m)
 -- what is neither a connection nor a peer is set
 set-part : {event : Event} (act : Act) (m : Machine) → (does act m).moves ≡ [] → (does act m).machine.connections ≡ m.connections →
     (does act m).machine.peers ≡ m.peers → (does act m).machine.next_id ≡ m.next_id → (does act m).actions ≡ [] → Tells event m (does act m)
-set-part act m none connections peers next_id silent =
-    obeys-part (quiet-obeys IsLawful m (does act m) (elsewhere-quiet m (does act m) none connections peers next_id (ap are_mute silent)))
+set-part act m none connections peers next_id silent = search (arith, obeys-part, quiet-obeys, elsewhere-quiet)
 
 clock-parts : (t : ℕ) (m : Machine) → IsOrdered m → EachFits (Now t) (acts m (Now t)) m
 clock-parts t m h = search (arith, at_moment-orderly, formed_at_moment, fits, set-part, fired-parts)
@@ -253,8 +251,7 @@ parts-fit m (Bytes cid bytes) h = bytes-parts cid bytes m (ordered_of m h) h.sou
 parts-fit m (Closed cid) h = (fits (λ id is. is) tt tt tt (obeys-part (closes-obeys cid m (ordered_of m h))), tt)
 parts-fit m (Aims targets) h = (fits tt tt tt tt (set-part (sets_targets targets) m refl refl refl refl refl), tt)
 parts-fit m (Locals groups) h = locals-parts groups m
-parts-fit m (Roots job answer) h = by_bool (awaits job.0 m.roots) (λ b. EachFits (Roots job answer) (if b then acts_of_answer answer m else []) m)
-    (λ is. roots-parts (Roots job answer) answer m (λ a ttl addrs found listed. subst (λ x. is_provided_by a (Roots job x) ≡ true) (sym found) listed)) (λ is. tt)
+parts-fit m (Roots job answer) h = search (arith, roots-parts)
 parts-fit m (BigAims targets) h = (fits tt tt tt tt (set-part (sets_big_targets targets) m refl refl refl refl refl), tt)
 parts-fit m (Bigs addrs) h = bigs-parts (Bigs addrs) addrs m
 

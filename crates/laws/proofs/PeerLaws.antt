@@ -50,8 +50,7 @@ pub steady-pending : (m : Machine) → IsSteady m → PendingAreCold m
 steady-pending m h addr pending = pending-cold m.now (peer_at addr m) (live_entry_at addr m) (live-shaped addr m h.formed) (h.tied addr) pending
 
 pub steady-back_off : (m : Machine) → IsSteady m → UsedAreOutOfBackOff m
-steady-back_off m h addr p found either =
-    used-rested m.now p (live_entry_at addr m) (subst (λ o. TiedBy m.now o (live_entry_at addr m)) found (h.tied addr)) either
+steady-back_off m h addr p found either = search (arith, used-rested)
 
 -- ---- the record
 

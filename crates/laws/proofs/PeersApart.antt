@@ -40,8 +40,7 @@ put_in-others new addr (p ∷ ps) n h = grind (arith, n, h.0, h.1, put_in-others
 
 pub with_new-apart : (new : Peer) (ps : List Peer) → AllByRecursion (λ q. same_address q.addr new.addr ≡ false) ps → ArePeersApart ps → ArePeersApart (with_new new ps)
 with_new-apart new [] n h = (tt, tt)
-with_new-apart new (p ∷ ps) n h =
-    grind (arith, n, h.0, h.1, with_new-apart new ps n.1 h.1, put_in-others new p.addr ps (same_turned p.addr new.addr n.0) h.0)
+with_new-apart new (p ∷ ps) n h = search (arith, put_in-others, same_turned, with_new-apart new ps n.1 h.1)
 
 -- where none is found, all are others
 pub none_found : (addr : Addr) (ps : List Peer) → is_some (peer_at addr ps) ≡ false → AllByRecursion (λ q. same_address q.addr addr ≡ false) ps

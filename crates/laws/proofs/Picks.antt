@@ -85,6 +85,5 @@ picks-apart true word number candidates h =
 
 pub picks-all : (P : Addr → Type 0) (big : Bool) (word number : ℕ) (candidates : List Peer) → AllByRecursion (λ p. P p.addr) candidates →
     AllByRecursion P (picks_of big word number candidates)
-picks-all P false word number candidates h =
-    least-all P (scores_below word) number (addresses_of candidates) (all-map P (λ p. p.addr) candidates h)
+picks-all P false word number candidates h = search (arith, least-all, all-map)
 picks-all P true word number candidates h = search (arith, all-map, least-all)

@@ -36,8 +36,7 @@ all_same addr (p ∷ ps) = (same_but-self addr p, all_same addr ps)
 -- one takes the place of the peer with its address
 with_peer-same : (new : Peer) (ps : List Peer) → AllByRecursion (λ q. same_address q.addr new.addr ≡ false) ps → AreSameBut new.addr ps (with_peer new ps)
 with_peer-same new [] others = tt
-with_peer-same new (p ∷ ps) others =
-    (subst (λ b. IsSameBut new.addr p (if b then new else p)) (sym others.0) (same_but-self new.addr p), with_peer-same new ps others.1)
+with_peer-same new (p ∷ ps) others = search (arith, same_but-self, with_peer-same new ps others.1)
 
 pub with_peer-same_but : (new p : Peer) (ps : List Peer) → ArePeersApart ps → peer_in new.addr ps ≡ Some p → new.big ≡ p.big →
     AreSameBut new.addr ps (with_peer new ps)

@@ -63,8 +63,7 @@ all_at (x ∷ xs) ys m one two = (one.0, all_at xs ys m one.1 two)
 
 both_joined : {A B C : Type 0} (f : A → List C) (g : B → List C) (xs ys : List A) (ms ns : List B) → flat_map f xs ≡ flat_map g ms → flat_map f ys ≡ flat_map g ns →
     flat_map f (xs ++ ys) ≡ flat_map g (ms ++ ns)
-both_joined f g xs ys ms ns one two =
-    flat_map-append f xs ys ∙ (ap (λ l. l ++ flat_map f ys) one ∙ (ap (λ l. flat_map g ms ++ l) two ∙ sym (flat_map-append g ms ns)))
+both_joined f g xs ys ms ns one two = search (arith, flat_map-append)
 
 abbrev ends_of_move : Move → List End
 ends_of_move move = ended_by move.happened
@@ -116,8 +115,7 @@ went_on cid m effect o p was now none address names forward = search arith
 -- one of which nothing is told, as it was
 pub went_untold : (cid : ℕ) (m : Machine) (effect : Effect) → entry_at cid effect.machine ≡ entry_at cid m → effect.moves ≡ [] → names_in cid effect.actions ≡ [] →
     stage_at cid m ≤ stage_of (entry_at cid m) (nat_lt cid effect.machine.next_id) → GoesOn cid m effect
-went_untold cid m effect same none untold forward =
-    went_on cid m effect (entry_at cid m) (entry_at cid m) refl same none (keeps_itself (entry_at cid m)) (rw untold refl) forward
+went_untold cid m effect same none untold forward = search (arith, went_on, keeps_itself)
 
 pub told_unchanged : (m : Machine) (effect : Effect) → IsMute effect.actions → effect.moves ≡ [] → IsUnchanged m effect.machine → IsTold m effect
 told_unchanged m effect mute none same = record {

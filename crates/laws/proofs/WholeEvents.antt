@@ -99,8 +99,7 @@ fires_as-keeps : (kind : Kind) (m : Machine) (e : Entry) (k : ℕ) → IsOrdered
     Keeps 0 m (fires_as kind e m).machine
 fires_as-keeps Handshake m e k h s waits = ending-keeps (Fault HandshakeWait) refl m e k h s
 fires_as-keeps GraceKind m e k h s waits = cond_both e.facts.local _ _ (λ (effect : Effect). Keeps 0 m effect.machine) (expires-keeps m e k h s) (closes_entry-keeps m e k h s)
-fires_as-keeps TimeWait m e k h s waits = moves-keeps 0 m (without_entry e.facts.cid.0 m) (goes-moves m e k h s)
-    (gone-ties m e k h.orderly s (λ live. absurd (both_ways (is_live e.facts) (waits refl) live)))
+fires_as-keeps TimeWait m e k h s waits = search (arith, moves-keeps, goes-moves, gone-ties, both_ways)
 fires_as-keeps other m e k h s waits = ending-keeps (Fault ReplyWait) refl m e k h s
 
 pub fires-keeps : (d : Deadline) (m : Machine) → IsOrdered m → due m ≡ Some d → Keeps 0 m (fires d m).machine
