@@ -172,12 +172,7 @@ forgets-spend big = record {
     idle = λ e is. fails-found (λ x. is_pending x.facts) (λ x. is_live_at a x.facts) a
         (λ x at. (and_parts (same_address x.facts.addr a) (is_live x.facts) at).0) m.connections e may.seen is;
   });
-  due = λ a addrs m h may left. one-gives (λ o. IsOne o (λ p. MayBeForgotten a p m)) (peer_at a m) may.peer (λ p is. record {
-    cold = is.1;
-    idle = may.seen;
-    spared = rw is.0.0 is.0.1;
-    surplus = rw is.0.0 (omega (arith, left));
-  });
+  due = λ a addrs m h may left. one-gives (λ o. IsOne o (λ p. MayBeForgotten a p m)) (peer_at a m) may.peer (λ p is. search (arith, may.seen));
   leaves = λ a m h. record { found = λ b other. taken-elsewhere a b m.peers other; seen = λ b other here. here };
   left = λ a addrs m h may left. surplus-left known_of known_wanted big (known-stays big) (Forget a) a addrs m h (taken-count (is_of big) a m.peers h.formed.peers) left;
 }
@@ -193,12 +188,7 @@ releases-spend big = record {
       let none : is_awaited e ≡ false = fails-found is_awaited (is_used_at a) a
       (λ x at. (and_parts (same_address x.facts.addr a) (is_live x.facts) (and_parts (is_live_at a x.facts) x.facts.local at).0).0) m.connections e may.seen is in
       record { on_2 = grind (arith, none); on_8 = grind (arith, none); on_10 = grind (arith, none) });
-  due = λ a addrs m h may left. one-gives (λ o. IsOne o (λ p. MayBeReleased a p m)) (peer_at a m) may.peer (λ p is. record {
-    warm = is.1;
-    settled = may.seen;
-    spared = rw is.0.0 is.0.1;
-    surplus = rw is.0.0 (omega (arith, left));
-  });
+  due = λ a addrs m h may left. one-gives (λ o. IsOne o (λ p. MayBeReleased a p m)) (peer_at a m) may.peer (λ p is. search (arith, may.seen));
   leaves = λ a m h. record {
     found = λ b other. found-same a b m.peers (carries_out (Release a) m).machine.peers other (release-leaves a m h).peers;
     seen = λ b other here. (release-leaves a m h).connections is_awaited b other here;
@@ -227,15 +217,7 @@ record AsksLeft (k : ℕ) (addrs : List Addr) (m : Machine) : Type 0 where
 asks-spend : (k : ℕ) → Spends IsOrdinary IsToAsk (λ see. see can_tell ≡ true) (AsksLeft k) (λ a. Ask a k)
 asks-spend k = record {
   carried = λ a addrs m h within may left. ask-carried IsLawful k a m h within (shares-may m h a may.seen);
-  due = λ a addrs m h may left. one-gives (λ o. IsOne o (λ p. MayBeAsked a k p m)) (peer_at a m) may.peer (λ p is. record {
-    ordinary = is.0;
-    established = is.1.0;
-    shares = may.seen;
-    again = is.1.1;
-    missing = left.missing (omega arith);
-    number = left.number;
-    few = let few = left.few in omega (arith, few);
-  });
+  due = λ a addrs m h may left. one-gives (λ o. IsOne o (λ p. MayBeAsked a k p m)) (peer_at a m) may.peer (λ p is. search (arith, may.seen, left.missing));
   leaves = λ a m h. changed-leaves (λ see. see can_tell ≡ true) a m (carries_out (Ask a k) m).machine (ask-changes a k m h);
   left = λ a addrs m h may left.
       let n : Machine = (carries_out (Ask a k) m).machine in
