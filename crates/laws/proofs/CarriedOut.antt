@@ -1,34 +1,33 @@
 -- Each order does what it says, the book changes only where it is to, and accepting pauses where it must.
-use Rattle.std.proofs.Common.{ℕ, ◌+◌, ◌%◌, ◌≡◌, Bool, true, false, ◌&&◌, nat_lt, if◌then◌else◌, [], ◌∷◌, find, get_or, set, Option, Some, None, is_some, refl, sym, ap, ◌∙◌, subst, arith}
-use Rattle.laws.proofs.Words.{cond_both, and_parts, and_from, All-weaker}
-use Rattle.laws.specs.Words.{Effect, option_map, pause_of, acquired, has_id, is_live, is_live_at, Order, Ask, Forget, Promote, Release, Activate, Deactivate, Addr, Peer, Cold, Warm, same_address, failed_peer, Cid, Facts, Pause, Overwritten, may_ask, with_entry, without_entry, lost, ending, acquire, trim, release, nothing_more, on_entry, admitted, closes, promote, is_used_at, on_used, asks_peer, deactivates, carries_out, Machine, Entry, counted_in, entry_at, live_entry_at, peer_at, turns_at, peer_changes, peer_fails, owing}
+use Rattle.std.proofs.Common.{ℕ, ◌≡◌, Bool, true, false, ◌&&◌, nat_lt, if◌then◌else◌, [], ◌∷◌, find, set, Option, Some, None, is_some, refl, sym, ap, ◌∙◌, subst, arith}
+use Rattle.laws.proofs.Words.{cond_both, and_parts, and_from}
+use Rattle.laws.specs.Words.{Effect, option_map, pause_of, acquired, has_id, is_live, is_live_at, Order, Ask, Forget, Promote, Release, Activate, Deactivate, Addr, Peer, Cold, Warm, same_address, Cid, Facts, Pause, Overwritten, may_ask, with_entry, without_entry, lost, ending, acquire, trim, release, on_entry, admitted, closes, promote, is_used_at, on_used, deactivates, carries_out, Machine, Entry, counted_in, entry_at, live_entry_at, peer_at, turns_at, peer_changes}
 use Rattle.laws.specs.AtMoves.{is_missed, FailsWhere, OnEntry}
-use Rattle.laws.specs.CarriedOut.{WhereLive, OnPeer, IsReused, Reuses, IsUsedByNobody, Comes, IsCarriedOut, TreatsBook, pauses_by, pauses_in, pauses_due, PausesRight}
+use Rattle.laws.specs.CarriedOut.{WhereLive, OnPeer, Reuses, IsUsedByNobody, Comes, IsCarriedOut, TreatsBook, pauses_by, pauses_in, pauses_due, PausesRight}
 use Rattle.laws.specs.Sound.{IsOrderly}
 use Rattle.laws.specs.Acts.{Act, shows, asks_for_roots, connects, stores, is_closed, sets_targets, sets_big_targets, sets_groups, sets_roots, does}
 use Rattle.laws.specs.Parts.{IsNext}
 use Rattle.laws.proofs.Addresses.{same_address-true}
 use Rattle.laws.proofs.Due.{promote-move, activate-move}
-use Rattle.laws.proofs.Entries.{TurnsInto, turned-connections, turned-orderly, one_has_id, has_own_id}
+use Rattle.laws.proofs.Entries.{TurnsInto, turned-connections, turned-orderly}
 use Rattle.laws.proofs.Failures.{changed-found, vanishes-failed}
-use Rattle.laws.proofs.Finds.{find-set_here, find-set_gone}
+use Rattle.laws.proofs.Finds.{find-set_gone}
+use Rattle.laws.proofs.Lawful.{stands-found}
+use Rattle.laws.proofs.Moments.{turned-found}
 use Rattle.laws.proofs.Lists.{StandsAt, OnePasses, FoundIn, stands-set, find_some, find_only, find_none, not_below}
-use Rattle.laws.proofs.Walk.{Finds, release-machine, cooled, turned_by, is_released}
+use Rattle.laws.proofs.Walk.{Finds, taken, release-machine, cooled, turned_by, is_released}
 use Rattle.laws.proofs.Orders.{unused_at}
 use Rattle.laws.proofs.Silent.{pauses-deaf, part-silent, asks-silent}
 use Rattle.laws.proofs.Ties.{live_one, taken-here, turns_at-elsewhere}
 use Rattle.laws.proofs.ToldMoves.{turns_at-connections}
 use Rattle.laws.proofs.Trims.{trim-used}
-use Rattle.laws.proofs.Cases.{by_bool, by_option}
+use Rattle.laws.proofs.Cases.{by_option}
 use Rattle.laws.proofs.Connects.{connects-cases}
 use Rattle.laws.proofs.ItemCases.{trim-cases}
 
 -- at most one connection of an address is in local use
 pub used_one : (addr : Addr) (m : Machine) → IsOrderly m → OnePasses (is_used_at addr) m.connections
-used_one addr m h i j d before inside here =
-    let e : Entry = get_or m.connections i d in
-    let f : Entry = get_or m.connections j d in
-    ap (λ b. b && f.facts.local) (live_one addr m h.addresses i j d before inside (and_parts (is_live_at addr e.facts) e.facts.local here).0)
+used_one addr m h i j d before inside here = search (arith, live_one, and_parts)
 
 -- a change of a peer leaves the connections in order
 pub changed-orderly : (o : Option Peer) (change : Peer → Peer) (m : Machine) → IsOrderly m → IsOrderly (turns_at o change m).machine
@@ -54,36 +53,29 @@ release-none addr m h = by_option (find (is_used_at addr) m.connections)
 
 -- where none is found, no live one of the address is in local use
 none-used : (addr : Addr) (m : Machine) → find (is_used_at addr) m.connections ≡ None → IsUsedByNobody addr m
-none-used addr m none =
-    All-weaker (λ e. is_used_at addr e ≡ false) (λ e. is_live_at addr e.facts ≡ true → e.facts.local ≡ false)
-    (λ e other live. sym (ap (λ b. b && e.facts.local) live) ∙ other) m.connections (find_none (is_used_at addr) m.connections none)
+none-used addr m none = search (arith, find_none)
 
 -- ---- a peer that changes
 
 -- what is found at its address is what it turned into
 pub changed-here : (a : Addr) (change : Peer → Peer) (m : Machine) → ((p : Peer) → (change p).addr ≡ p.addr) → (law : Peer → Type 0) →
     ((p : Peer) → law (change p)) → OnPeer (peer_at a (peer_changes a change m).machine) law
-changed-here a change m same law each = subst (λ o. OnPeer o law) (sym (changed-found a change m same)) (by_option (peer_at a m)
-    (λ o. OnPeer (option_map change o) law)
-    (λ is. tt) (λ p is. each p))
+changed-here a change m same law each = search (arith, changed-found)
 
 -- ---- a connection that is taken into use
 
+-- what a connection turns into is found in its place
+pub turned-here : (m : Machine) (e new : Entry) (k : ℕ) → IsOrderly m → StandsAt m.connections k e → new.facts.cid ≡ e.facts.cid → entry_at e.facts.cid.0 (with_entry new m) ≡ Some new
+turned-here m e new k h s same = turned-found e new m same ∙ ap (option_map (λ x. new)) (stands-found m e k h s)
+
 reuses : (addr : Addr) (m : Machine) → IsOrderly m → Reuses addr m (promote addr m).machine
 reuses addr m h e live free =
-    let taken : (promote addr m).machine ≡ (acquire e m).machine = rw (live, free) refl in
     let at = find_some (λ x. is_live_at addr x.facts) m.connections e live in
-    let new : Entry = owing 8 (e.facts.cid.0 % 65536) m (record e { facts = acquired e.facts }) in
-    let n : Machine = with_entry new m in
+    let n : Machine = with_entry (taken (acquired e.facts) e m) m in
     let warm : Peer → Peer = λ p. record p { temp = Warm; failures = 0 } in
-    let t : TurnsInto e new = record { same_id = refl; same_addr = refl; live = λ l. l } in
-    let list : (acquire e m).machine.connections ≡ set m.connections at.place new =
-    turns_at-connections (peer_at e.facts.addr n) warm n ∙ turned-connections m e new at.place h at.stands t in
-    let found : entry_at e.facts.cid.0 (acquire e m).machine ≡ Some new =
-    ap (find (λ x. has_id e.facts.cid.0 x.facts)) list
-    ∙ find-set_here (λ x. has_id e.facts.cid.0 x.facts) new e m.connections at.place (one_has_id e.facts.cid.0 m.connections h.ids_rise) at.stands (has_own_id e) (has_own_id e) in
-    subst (IsReused e) (sym taken)
-    (record {
+    let found : entry_at e.facts.cid.0 (acquire e m).machine ≡ Some (taken (acquired e.facts) e m) =
+    ap (find (λ x. has_id e.facts.cid.0 x.facts)) (turns_at-connections (peer_at e.facts.addr n) warm n) ∙ turned-here m e (taken (acquired e.facts) e m) at.place h at.stands refl in
+    rw (live, free) (record {
       stands = subst (λ o. OnEntry o (λ f. f.facts ≡ record e.facts { local = true })) (sym found) refl;
       warm = changed-here e.facts.addr warm n (λ p. refl) (λ p. p.temp ≡ Warm) (λ p. refl);
       forgiven = changed-here e.facts.addr warm n (λ p. refl) (λ p. p.failures ≡ 0) (λ p. refl);
@@ -92,7 +84,7 @@ reuses addr m h e live free =
 -- ---- a peer that an order finds in use
 
 -- the live connection that is in use is the one that an order finds
-used-here : (addr : Addr) (m : Machine) (e : Entry) → IsOrderly m → live_entry_at addr m ≡ Some e → e.facts.local ≡ true → find (is_used_at addr) m.connections ≡ Some e
+pub used-here : (addr : Addr) (m : Machine) (e : Entry) → IsOrderly m → live_entry_at addr m ≡ Some e → e.facts.local ≡ true → find (is_used_at addr) m.connections ≡ Some e
 used-here addr m e h live local =
     let at = find_some (λ x. is_live_at addr x.facts) m.connections e live in
     find_only (is_used_at addr) e m.connections at.place (used_one addr m h) at.stands (and_from (is_live_at addr e.facts) e.facts.local at.passes local)
@@ -112,23 +104,14 @@ used-leaves addr act m law h each e live local =
 
 -- one that is cold stays so when a connection is pruned
 lost-cold : (a : Addr) (f : Facts) (m : Machine) → OnPeer (peer_at a m) (λ p. p.temp ≡ Cold) → OnPeer (peer_at a (lost f m).machine) (λ p. p.temp ≡ Cold)
-lost-cold a f m cold = cond_both (is_missed f) (peer_fails f.addr m) (nothing_more m) (λ effect. OnPeer (peer_at a effect.machine) (λ p. p.temp ≡ Cold))
-    (λ missed. by_bool (same_address a f.addr) (λ b. OnPeer (peer_at a (peer_changes f.addr fails m).machine) (λ p. p.temp ≡ Cold))
-    (λ here. subst (λ x. OnPeer (peer_at x (peer_changes f.addr fails m).machine) (λ p. p.temp ≡ Cold)) (sym (same_address-true a f.addr here))
-    (changed-here f.addr fails m (λ p. refl) (λ p. p.temp ≡ Cold) (λ p. refl)))
-    (λ other. subst (λ o. OnPeer o (λ p. p.temp ≡ Cold)) (sym (turns_at-elsewhere f.addr fails m (λ p. refl) a other)) cold)) (λ other. cold)
-  where
-    fails : Peer → Peer
-    fails = failed_peer m.now m.settings.backoff
+lost-cold a f m cold = search (arith, changed-here, turns_at-elsewhere)
 
 trim-cold : (a : Addr) (moved : Cid) (m : Machine) → OnPeer (peer_at a m) (λ p. p.temp ≡ Cold) → OnPeer (peer_at a (trim moved m).machine) (λ p. p.temp ≡ Cold)
 trim-cold a moved m cold =
     trim-cases moved m (λ effect. OnPeer (peer_at a effect.machine) (λ p. p.temp ≡ Cold)) cold (λ e is. lost-cold a e.facts (without_entry e.facts.cid.0 m) cold)
 
 releases-cools : (addr : Addr) (m : Machine) → IsOrderly m → Comes Cold addr m (carries_out (Release addr) m).machine
-releases-cools addr m h = used-leaves addr release m (λ p. p.temp ≡ Cold) h (λ e.
-    subst (λ w. OnPeer (peer_at e.facts.addr w) (λ p. p.temp ≡ Cold)) (sym (release-machine e m)) (trim-cold e.facts.addr e.facts.cid (cooled e m)
-    (changed-here e.facts.addr (λ p. record p { temp = Cold }) (with_entry (turned_by is_released e m) m) (λ p. refl) (λ p. p.temp ≡ Cold) (λ p. refl))))
+releases-cools addr m h = search (arith, used-leaves, release-machine, trim-cold, changed-here, is_released)
 
 -- ---- the book
 
@@ -155,11 +138,7 @@ notice-pauses true length = refl
 notice-pauses false length = refl
 
 admitted-pauses : (addr : Addr) (m : Machine) → pauses_in (admitted addr m).actions ≡ pauses_due m (admitted addr m).machine
-admitted-pauses addr m =
-    let n : Machine = (admitted addr m).machine in
-    let below : nat_lt m.next_id (m.next_id + 1) ≡ true = grind arith in
-    notice-pauses (nat_lt n.settings.soft (counted_in n)) (pause_of n.settings (counted_in n))
-    ∙ ap (λ b. if b && nat_lt n.settings.soft (counted_in n) then pause_of n.settings (counted_in n) ∷ [] else []) (sym below)
+admitted-pauses addr m = search (arith, notice-pauses)
 
 nobody-pauses : (m : Machine) → [] ≡ pauses_due m m
 nobody-pauses m = ap (λ b. if b && nat_lt m.settings.soft (counted_in m) then pause_of m.settings (counted_in m) ∷ [] else []) (sym (not_below m.next_id))
@@ -173,13 +152,9 @@ pauses-right other m next found = part-silent pauses_by pauses-deaf (λ cid byte
 -- ---- each order
 
 pub carried-out : (order : Order) (m : Machine) → IsOrderly m → IsCarriedOut order m (carries_out order m)
-carried-out (Ask addr n) m h =
-    let gap : ℕ = m.now + m.settings.sharegap in
-    used-leaves addr (asks_peer n) m (λ p. p.share_next ≡ gap) h
-    (λ e. changed-here e.facts.addr (λ p. record p { share_next = gap }) (with_entry (owing 10 n m e) m) (λ p. refl) (λ p. p.share_next ≡ gap) (λ p. refl))
+carried-out (Ask addr n) m h = search (arith, used-leaves, changed-here)
 carried-out (Forget addr) m h = ap is_some (taken-here addr m.peers)
 carried-out (Promote addr) m h = (promote-move addr m, reuses addr m h)
 carried-out (Release addr) m h = (none-used addr (carries_out (Release addr) m).machine (release-none addr m h), releases-cools addr m h)
 carried-out (Activate addr) m h = activate-move addr m
-carried-out (Deactivate addr) m h = used-leaves addr deactivates m (λ p. p.temp ≡ Warm) h
-    (λ e. changed-here e.facts.addr (λ p. record p { temp = Warm }) m (λ p. refl) (λ p. p.temp ≡ Warm) (λ p. refl))
+carried-out (Deactivate addr) m h = search (arith, used-leaves, changed-here)

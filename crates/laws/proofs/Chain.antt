@@ -1,10 +1,9 @@
 -- An event is its parts, one after the other.
-use Rattle.std.proofs.Common.{ℕ, zero, suc, ◌≡◌, Bool, nat_le, if◌then◌else◌, List, [], ◌∷◌, ◌++◌, map, length, Option, Some, None, refl, sym, ap, ◌∙◌, arith}
+use Rattle.std.proofs.Common.{ℕ, zero, suc, ◌≡◌, Bool, nat_le, if◌then◌else◌, List, [], ◌∷◌, ◌++◌, map, Option, Some, None, refl, sym, ◌∙◌, arith}
 use Rattle.laws.proofs.Words.{append-nil, append_assoc}
-use Rattle.laws.specs.Words.{Order, FedBy, Action, Addr, Cid, Event, Now, Govern, Accepted, Dialed, Bytes, Closed, Aims, Locals, Roots, BigAims, Bigs, Group, RootAnswer, Found, Failed, cleaned, members_of, awaits, publics_of, found, deadlines, due, fires, fires_some, fire_due, Effect, Move, nothing_more, on_entry, then_do, for_each, clock_shows, carries_out, asks_roots, ordinary_rules, big_rules, rules, govern, Machine, Entry, entry_at, peer_is_ordinary, comes_ordinary, comes_big, roots_say, handles, fed_with, comes_in, step}
-use Rattle.laws.specs.Acts.{Act, fires_one, carries, connects, ends_dial, stores, handles_item, ends_stream, is_closed, sets_targets, sets_big_targets, makes_ordinary, provides, provides_big, does, fired_from, fired, orders_of, acts_at_moment, acts_fed, acts_of_bytes, acts_of_groups, acts_of_answer, acts}
+use Rattle.laws.specs.Words.{Order, FedBy, Action, Cid, Event, Now, Govern, Accepted, Dialed, Bytes, Closed, Aims, Locals, Roots, BigAims, Bigs, Group, RootAnswer, Found, Failed, cleaned, members_of, awaits, fires, fire_due, Effect, Move, nothing_more, on_entry, then_do, for_each, clock_shows, carries_out, asks_roots, ordinary_rules, big_rules, rules, govern, Machine, Entry, entry_at, peer_is_ordinary, comes_ordinary, comes_big, roots_say, handles, fed_with, comes_in, step}
+use Rattle.laws.specs.Acts.{Act, carries, connects, ends_dial, stores, handles_item, ends_stream, is_closed, sets_targets, sets_big_targets, provides_big, does, fired, orders_of, acts_at_moment, acts_fed, acts_of_bytes, acts_of_groups, acts_of_answer, acts}
 use Rattle.laws.specs.AtMoves.{fed_on}
-use Rattle.laws.proofs.Cases.{by_option}
 
 -- ---- one after the other
 
@@ -12,15 +11,10 @@ abbrev with_actions : List Action → List Move → Machine → Effect
 with_actions actions moves m = record { machine = m; actions = actions; moves = moves }
 
 then_nothing : (effect : Effect) → then_do effect nothing_more ≡ effect
-then_nothing effect =
-    ap (λ actions. with_actions actions (effect.moves ++ []) effect.machine) (append-nil effect.actions)
-    ∙ ap (λ moves. with_actions effect.actions moves effect.machine) (append-nil effect.moves)
+then_nothing effect = search (arith, append-nil)
 
 pub then_assoc : (effect : Effect) (f g : Machine → Effect) → then_do (then_do effect f) g ≡ then_do effect (λ m. then_do (f m) g)
-then_assoc effect f g =
-    let second : Effect = f effect.machine in
-    let third : Effect = g second.machine in
-    cc (append_assoc effect.actions second.actions third.actions, append_assoc effect.moves second.moves third.moves)
+then_assoc effect f g = search (arith, append_assoc)
 
 -- what follows is the same
 then_same : (effect : Effect) (f g : Machine → Effect) → f effect.machine ≡ g effect.machine → then_do effect f ≡ then_do effect g
@@ -52,16 +46,11 @@ no_act m = refl
 fired-chain : (n : ℕ) (m : Machine) → fire_due n m ≡ for_each fires (fired n m) m
 unfolding fire_due fired for_each
 fired-chain zero m = refl
-fired-chain (suc n) m = by_option (due m)
-    (λ o. ((w : Machine) → fire_due n w ≡ for_each fires (fired n w) w) → fires_some o (fire_due n) m ≡ for_each fires (fired_from o (fired n) m) m)
-    (λ is later. refl)
-    (λ d is later. then_same (fires d m) (fire_due n) (for_each fires (fired n (fires d m).machine)) (later (fires d m).machine)) (fired-chain n)
+fired-chain (suc n) m = search (arith, then_same, fired-chain n)
 
 clock-chain : (t : ℕ) (m : Machine) → clock_shows t m ≡ for_each does (if nat_le t m.now then [] else acts_at_moment t m) m
 unfolding for_each
-clock-chain t m =
-    let n : Machine = record m { now = t } in
-    grind (arith, fired-chain (length (deadlines n)) n, each_mapped fires_one fires (λ d w. refl) (fired (length (deadlines n)) n) n)
+clock-chain t m = search (arith, fired-chain, each_mapped)
 
 -- ---- the governor
 
@@ -106,19 +95,11 @@ locals-chain : (kept : List Group) (m : Machine) →
     then_do (for_each peer_is_ordinary (members_of kept) (record m { groups = kept })) (for_each comes_ordinary (members_of kept))
     ≡ for_each does (acts_of_groups kept) m
 unfolding for_each
-locals-chain kept m =
-    let n : Machine = record m { groups = kept } in
-    let ordinary : List Act = map makes_ordinary (members_of kept) in
-    let provided : List Act = map provides (members_of kept) in
-    let first : Effect = for_each peer_is_ordinary (members_of kept) n in
-    let second = each_mapped provides comes_ordinary (λ a w. refl) (members_of kept) first.machine in
-    cc (each_mapped makes_ordinary peer_is_ordinary (λ a w. refl) (members_of kept) n, second, each_appended does ordinary provided n)
+locals-chain kept m = search (arith, each_mapped, each_appended)
 
 answer-chain : (answer : RootAnswer) (m : Machine) → roots_say answer m ≡ for_each does (acts_of_answer answer m) m
 unfolding for_each
-answer-chain (Found ttl addrs) m =
-    let publics : List Addr = publics_of m.settings.own m.targets.root addrs in
-    sym (each_mapped provides comes_ordinary (λ a w. refl) publics (record m { roots = found m.now ttl publics m.roots }))
+answer-chain (Found ttl addrs) m = search (arith, each_mapped)
 answer-chain Failed m = refl
 
 roots-chain : (b : Bool) (answer : RootAnswer) (m : Machine) →

@@ -1,12 +1,13 @@
 -- The peers that orders go to: no address twice, and of a group members only.
-use Rattle.std.proofs.Common.{ℕ, ◌≡◌, Bool, true, false, ◌&&◌, List, [], ◌∷◌, ◌++◌, map, filter, flat_map, Some, refl, ◌∙◌, sym, ap, arith}
+use Rattle.std.proofs.Common.{ℕ, ◌-◌, ◌≡◌, Bool, true, false, ◌&&◌, List, [], ◌∷◌, ◌++◌, map, filter, flat_map, Some, refl, ◌∙◌, sym, ap, arith}
 use Rattle.laws.proofs.Words.{or_from, list_any-append, map-append}
-use Rattle.laws.specs.Words.{AllByRecursion, same_address, Addr, Group, Peer, is_of, is_listed, members_of, picks_of, Order, is_member_and}
+use Rattle.laws.specs.Words.{AllByRecursion, same_address, Addr, Group, Peer, is_of, is_listed, members_of, picks_of, Order, Deactivate, is_member_and, is_not_local, members_count, may_be_deactivated, active_of, active_target, g9_orders, view_of, Machine}
 use Rattle.peer_book.specs.Book.{peer_at}
 use Rattle.laws.specs.Steady.{ArePeersApart, AreApart}
 use Rattle.laws.proofs.Addresses.{same_address-true}
 use Rattle.laws.proofs.GroupsApart.{append-apart}
-use Rattle.laws.proofs.Lists.{all-weaker, all-appended, all-behind, all-both, filter-all, filter-passing}
+use Rattle.laws.proofs.Each.{weaker, weaker-both}
+use Rattle.laws.proofs.Lists.{all-appended, all-behind, filter-all, filter-passing}
 use Rattle.laws.proofs.PeersApart.{all-found, same_turned, filter-apart}
 use Rattle.laws.proofs.Picks.{picks-apart, picks-all}
 
@@ -17,17 +18,11 @@ abbrev pub chosen : Bool → ℕ → ℕ → (Peer → Bool) → List Peer → L
 chosen big word number test peers = picks_of big word number (filter (λ p. is_of big p && test p) peers)
 
 pub chosen-apart : (big : Bool) (word number : ℕ) (test : Peer → Bool) (peers : List Peer) → ArePeersApart peers → AreApart (chosen big word number test peers)
-chosen-apart big word number test peers h =
-    let passes : Peer → Bool = λ p. is_of big p && test p in
-    picks-apart big word number (filter passes peers) (filter-apart passes peers h)
+chosen-apart big word number test peers h = search (arith, picks-apart, filter-apart)
 
 pub chosen-all : (P : Addr → Type 0) (big : Bool) (word number : ℕ) (test : Peer → Bool) (peers : List Peer) → ArePeersApart peers →
     ((p : Peer) → (is_of big p && test p) ≡ true → peer_at p.addr peers ≡ Some p → P p.addr) → AllByRecursion P (chosen big word number test peers)
-chosen-all P big word number test peers apart gives =
-    let passes : Peer → Bool = λ p. is_of big p && test p in
-    picks-all P big word number (filter passes peers)
-    (all-both (λ p. passes p ≡ true) (λ p. peer_at p.addr peers ≡ Some p) (λ p. P p.addr) gives (filter passes peers) (filter-passing passes peers)
-    (filter-all (λ p. peer_at p.addr peers ≡ Some p) passes peers (all-found peers apart)))
+chosen-all P big word number test peers apart gives = search (arith, picks-all, weaker-both, filter-passing, filter-all, all-found)
 
 -- ---- of each group
 
@@ -60,21 +55,17 @@ picks-listed pick [] h = tt
 picks-listed pick (g ∷ groups) h =
     let rest : List Addr = members_of groups in
     all-appended (λ a. is_listed a (g.members ++ rest) ≡ true) (pick g) (flat_map pick groups)
-    (all-weaker (λ a. is_listed a g.members ≡ true) (λ a. is_listed a (g.members ++ rest) ≡ true)
-    (λ a listed. grind (arith, listed, list_any-append (same_address a) g.members rest)) (pick g) (h.members g))
-    (all-weaker (λ a. is_listed a rest ≡ true) (λ a. is_listed a (g.members ++ rest) ≡ true)
-    (λ a listed. grind (arith, listed, list_any-append (same_address a) g.members rest)) (flat_map pick groups) (picks-listed pick groups h))
+    (weaker (pick g) (λ a listed. grind (arith, listed, list_any-append (same_address a) g.members rest)) (h.members g))
+    (weaker (flat_map pick groups) (λ a listed. grind (arith, listed, list_any-append (same_address a) g.members rest)) (picks-listed pick groups h))
 
 pub groups_picks-apart : (pick : Group → List Addr) (groups : List Group) → PicksMembers pick → AreApart (members_of groups) → AreApart (flat_map pick groups)
 groups_picks-apart pick [] h apart = tt
 groups_picks-apart pick (g ∷ groups) h apart =
     let rest : List Addr = members_of groups in
     append-apart (pick g) (flat_map pick groups) (h.apart g) (groups_picks-apart pick groups h (apart-behind g.members rest apart))
-    (all-weaker (λ b. is_listed b rest ≡ true) (λ b. is_listed b (pick g) ≡ false)
-    (λ b there. not_among b (pick g)
-    (all-weaker (λ a. is_listed a g.members ≡ true) (λ a. same_address a b ≡ false)
-    (λ a here. same_turned b a (others g.members rest a b apart here there)) (pick g) (h.members g)))
-    (flat_map pick groups) (picks-listed pick groups h))
+    (weaker (flat_map pick groups)
+    (λ b there. not_among b (pick g) (weaker (pick g) (λ a here. same_turned b a (others g.members rest a b apart here there)) (h.members g)))
+    (picks-listed pick groups h))
 
 pub groups_picks-all : (P : Addr → Type 0) (pick : Group → List Addr) (groups : List Group) → ((group : Group) → AllByRecursion P (pick group)) →
     AllByRecursion P (flat_map pick groups)
@@ -85,14 +76,26 @@ groups_picks-all P pick (g ∷ groups) each = all-appended P (pick g) (flat_map 
 pub map-groups : (order : Addr → Order) (pick : Group → List Addr) (groups : List Group) →
     flat_map (λ g. map order (pick g)) groups ≡ map order (flat_map pick groups)
 map-groups order pick [] = refl
-map-groups order pick (g ∷ groups) =
-    ap (λ orders. map order (pick g) ++ orders) (map-groups order pick groups) ∙ sym (map-append order (pick g) (flat_map pick groups))
+map-groups order pick (g ∷ groups) = search (arith, map-append, map-groups order pick groups)
 
 -- the picks of each group
-pub group_picks : (word : ℕ) (number : Group → ℕ) (test : Peer → Bool) (ps : List Peer) → ArePeersApart ps →
-    PicksMembers (λ g. chosen false word (number g) (is_member_and g test) ps)
+abbrev pub picks_in : ℕ → (Group → ℕ) → (Peer → Bool) → List Peer → Group → List Addr
+picks_in word number test ps g = chosen false word (number g) (is_member_and g test) ps
+
+pub group_picks : (word : ℕ) (number : Group → ℕ) (test : Peer → Bool) (ps : List Peer) → ArePeersApart ps → PicksMembers (picks_in word number test ps)
 group_picks word number test ps apart = record {
   apart = λ g. chosen-apart false word (number g) (is_member_and g test) ps apart;
-  members = λ g. chosen-all (λ a. is_listed a g.members ≡ true) false word (number g) (is_member_and g test) ps apart
-      (λ p passes found. grind (arith, passes));
+  members = λ g. chosen-all (λ a. is_listed a g.members ≡ true) false word (number g) (is_member_and g test) ps apart (λ p passes found. grind (arith, passes));
 }
+
+-- whom the last rule for ordinary peers picks: by the target, and then by the valencies
+abbrev pub hot_free : ℕ → Machine → List Addr
+hot_free word m = chosen false word (active_of false m.peers - active_target false (view_of word m)) (λ p. is_not_local m.groups p.addr && may_be_deactivated p) m.peers
+
+abbrev pub hot_members : ℕ → Machine → Group → List Addr
+hot_members word m = picks_in word (λ g. members_count g may_be_deactivated m.peers - g.hot) may_be_deactivated m.peers
+
+pub g9-same : (word : ℕ) (m : Machine) →
+    g9_orders (view_of word m) m.peers m.groups ≡ map Deactivate (hot_free word m ++ flat_map (hot_members word m) m.groups)
+g9-same word m = ap (λ orders. map Deactivate (hot_free word m) ++ orders) (map-groups Deactivate (hot_members word m) m.groups)
+    ∙ sym (map-append Deactivate (hot_free word m) (flat_map (hot_members word m) m.groups))

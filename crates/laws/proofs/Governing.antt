@@ -1,42 +1,37 @@
 -- The governor as a whole: each rule, and all of them.
 use Rattle.std.proofs.Common.{ℕ, ◌≤◌, ◌≡◌, List, [], ◌∷◌, ◌++◌, refl, arith}
-use Rattle.laws.specs.Words.{AllByRecursion, AskRoots, asked, Order, Machine, counted_in, Effect, Move, tells, then_do, for_each, carries_out, asks_roots, ordinary_rules, big_rules, rules, govern}
+use Rattle.laws.specs.Words.{AllByRecursion, AskRoots, asked, Order, Machine, counted_in, Effect, tells, then_do, for_each, carries_out, asks_roots, ordinary_rules, big_rules, rules, govern}
 use Rattle.laws.specs.Acts.{orders_of}
 use Rattle.laws.specs.AtMoves.{IsLawful}
 use Rattle.laws.specs.Steady.{IsOrdered}
 use Rattle.laws.proofs.Keeping.{Keeps, keeps_nothing, elsewhere-keeps}
-use Rattle.laws.proofs.Lawful.{Accounts, IsQuiet, quiet-obeys, elsewhere-quiet, tells-quiet}
-use Rattle.laws.specs.Ordered.{IsDueOrder}
-use Rattle.laws.proofs.Orders.{EachOf, IsAccountedFor, EachAccounted}
-use Rattle.laws.proofs.Ordering.{EachDue, ordinary-due, big-due, Done, DoesRight}
+use Rattle.laws.proofs.Lawful.{IsQuiet, quiet-obeys, elsewhere-quiet, tells-quiet}
+use Rattle.laws.proofs.Ordering.{AreRight, ordinary-due, big-due, Done, DoesRight}
 use Rattle.laws.proofs.Trims.{Trimmed, keeps-trimmed, nothing-trimmed, trimmed_then, trimmed-within}
 
 -- ---- all rules
 
--- the rules were followed one after the other
-pub record Governed (Law : Move → Type 0) (each : List (Machine → List Order)) (m : Machine) : Type 0 where
-  pub trimmed : Trimmed Law m (for_each rules each m)
-  pub orders : EachAccounted (orders_of each m) m
-  pub due : EachDue (orders_of each m) m
-
-each_more : (law : Order → Machine → Type 0) (xs ys : List Order) (m : Machine) → EachOf law xs m → EachOf law ys (for_each carries_out xs m).machine → EachOf law (xs ++ ys) m
+right_more : (xs ys : List Order) (m : Machine) → AreRight xs m → AreRight ys (for_each carries_out xs m).machine → AreRight (xs ++ ys) m
 unfolding for_each
-each_more law [] ys m one two = two
-each_more law (x ∷ xs) ys m one two = (one.0, each_more law xs ys (carries_out x m).machine one.1 two)
+right_more [] ys m one two = two
+right_more (x ∷ xs) ys m one two = (one.0, right_more xs ys (carries_out x m).machine one.1 two)
+
+-- the rules were followed one after the other
+record Governed (each : List (Machine → List Order)) (m : Machine) : Type 0 where
+  trimmed : Trimmed IsLawful m (for_each rules each m)
+  right : AreRight (orders_of each m) m
 
 all-rules : (each : List (Machine → List Order)) → AllByRecursion (λ orders. DoesRight orders) each → (m : Machine) → IsOrdered m →
-    counted_in m ≤ m.settings.hard → Governed IsLawful each m
+    counted_in m ≤ m.settings.hard → Governed each m
 unfolding for_each orders_of
-all-rules [] right m o within = record { trimmed = nothing-trimmed IsLawful m within o; orders = tt; due = tt }
-all-rules (r ∷ rs) right m o within =
+all-rules [] due m o within = record { trimmed = nothing-trimmed IsLawful m within o; right = tt }
+all-rules (r ∷ rs) due m o within =
     let effect : Effect = rules r m in
-    let first : Done IsLawful (r m) m = right.0 m o within in
-    let trimmed : Trimmed IsLawful m effect = first.followed.trimmed in
-    let rest : Governed IsLawful rs effect.machine = all-rules rs right.1 effect.machine trimmed.ordered (trimmed-within IsLawful m effect trimmed) in
+    let first : Done (r m) m = due.0 m o within in
+    let rest : Governed rs effect.machine = all-rules rs due.1 effect.machine first.trimmed.ordered (trimmed-within IsLawful m effect first.trimmed) in
     record {
-      trimmed = trimmed_then IsLawful m effect (for_each rules rs) trimmed rest.trimmed;
-      orders = each_more IsAccountedFor (r m) (orders_of rs effect.machine) m first.followed.each rest.orders;
-      due = each_more IsDueOrder (r m) (orders_of rs effect.machine) m first.due rest.due;
+      trimmed = trimmed_then IsLawful m effect (for_each rules rs) first.trimmed rest.trimmed;
+      right = right_more (r m) (orders_of rs effect.machine) m first.right rest.right;
     }
 
 pub asks_roots-keeps : (m : Machine) → IsOrdered m → Keeps 0 m (asks_roots m).machine
@@ -50,12 +45,10 @@ asks_roots-quiet m =
 -- what the governor does, and each of its orders
 pub record Governs (word : ℕ) (m : Machine) : Type 0 where
   pub trimmed : Trimmed IsLawful m (govern word m)
-  pub asked : Accounts m (asks_roots m)
-  pub ordinary : EachAccounted (orders_of (ordinary_rules word) (asks_roots m).machine) (asks_roots m).machine
-  pub big : EachAccounted (orders_of (big_rules word) (for_each rules (ordinary_rules word) (asks_roots m).machine).machine)
-      (for_each rules (ordinary_rules word) (asks_roots m).machine).machine
-  pub ordinary_due : EachDue (orders_of (ordinary_rules word) (asks_roots m).machine) (asks_roots m).machine
-  pub big_due : EachDue (orders_of (big_rules word) (for_each rules (ordinary_rules word) (asks_roots m).machine).machine)
+  pub asked : Trimmed IsLawful m (asks_roots m)
+  pub ruled : Trimmed IsLawful (asks_roots m).machine (for_each rules (ordinary_rules word) (asks_roots m).machine)
+  pub ordinary : AreRight (orders_of (ordinary_rules word) (asks_roots m).machine) (asks_roots m).machine
+  pub big : AreRight (orders_of (big_rules word) (for_each rules (ordinary_rules word) (asks_roots m).machine).machine)
       (for_each rules (ordinary_rules word) (asks_roots m).machine).machine
 
 pub governs : (word : ℕ) (m : Machine) → IsOrdered m → counted_in m ≤ m.settings.hard → Governs word m
@@ -64,9 +57,9 @@ governs word m h within =
     let one : Trimmed IsLawful m first =
     keeps-trimmed IsLawful m first within (asks_roots-keeps m h) (quiet-obeys IsLawful m first (asks_roots-quiet m)) in
     let second : Effect = for_each rules (ordinary_rules word) first.machine in
-    let two : Governed IsLawful (ordinary_rules word) first.machine =
+    let two : Governed (ordinary_rules word) first.machine =
     all-rules (ordinary_rules word) (ordinary-due word) first.machine one.ordered (trimmed-within IsLawful m first one) in
-    let three : Governed IsLawful (big_rules word) second.machine =
+    let three : Governed (big_rules word) second.machine =
     all-rules (big_rules word) (big-due word) second.machine two.trimmed.ordered (trimmed-within IsLawful first.machine second two.trimmed) in
     assumption (trimmed_then IsLawful m first (λ m. then_do (for_each rules (ordinary_rules word) m) (for_each rules (big_rules word))) one
     (trimmed_then IsLawful first.machine second (for_each rules (big_rules word)) two.trimmed three.trimmed))

@@ -3,7 +3,8 @@ use Rattle.std.proofs.Common.{◌≡◌, false, List, [], ◌∷◌, ◌++◌, �
 use Rattle.laws.proofs.Words.{or_parts, list_any-append}
 use Rattle.laws.specs.Words.{AllByRecursion, same_address, Addr, Group, is_listed, first_places, cleaned_after, cleaned, members_of}
 use Rattle.laws.specs.Steady.{AreApart}
-use Rattle.laws.proofs.Lists.{all-weaker, all-appended}
+use Rattle.laws.proofs.Each.{weaker}
+use Rattle.laws.proofs.Lists.{all-appended}
 
 -- none of some addresses is listed among others
 abbrev pub NoneListed : List Addr → List Addr → Type 0
@@ -17,18 +18,12 @@ unlisted_append a before more h = or_parts (is_listed a before) (is_listed a mor
 pub first_places-none : (before addrs : List Addr) → NoneListed before (first_places before addrs)
 unfolding first_places
 first_places-none before [] = tt
-first_places-none before (a ∷ addrs) =
-    let kept = all-weaker (λ x. is_listed x (before ++ a ∷ []) ≡ false) (λ x. is_listed x before ≡ false) (λ x h. (unlisted_append x before (a ∷ []) h).0)
-    (first_places (before ++ a ∷ []) addrs) (first_places-none (before ++ a ∷ []) addrs) in
-    grind (arith, first_places-none before addrs, kept)
+first_places-none before (a ∷ addrs) = search (arith, weaker, unlisted_append, first_places-none (before ++ a ∷ []) addrs, first_places-none before addrs)
 
 first_places-apart : (before addrs : List Addr) → AreApart (first_places before addrs)
 unfolding first_places
 first_places-apart before [] = tt
-first_places-apart before (a ∷ addrs) =
-    let others = all-weaker (λ x. is_listed x (before ++ a ∷ []) ≡ false) (λ x. same_address x a ≡ false)
-    (λ x h. (or_parts (same_address x a) false (unlisted_append x before (a ∷ []) h).1).0) (first_places (before ++ a ∷ []) addrs) (first_places-none (before ++ a ∷ []) addrs) in
-    grind (arith, first_places-apart before addrs, first_places-apart (before ++ a ∷ []) addrs, others)
+first_places-apart before (a ∷ addrs) = search (arith, weaker, or_parts, unlisted_append, first_places-none, first_places-apart before addrs, first_places-apart (before ++ a ∷ []) addrs)
 
 -- ---- all groups
 
@@ -37,27 +32,20 @@ unfolding cleaned_after
 cleaned-none before [] = tt
 cleaned-none before (g ∷ groups) =
     let here : List Addr = first_places before g.members in
-    let rest : List Addr = members_of (cleaned_after (before ++ here) groups) in
-    all-appended (λ x. is_listed x before ≡ false) here rest (first_places-none before g.members)
-    (all-weaker (λ x. is_listed x (before ++ here) ≡ false) (λ x. is_listed x before ≡ false)
-    (λ x h. (unlisted_append x before here h).0) rest (cleaned-none (before ++ here) groups))
+    all-appended (λ x. is_listed x before ≡ false) here _ (first_places-none before g.members)
+    (weaker _ (λ x h. (unlisted_append x before here h).0) (cleaned-none (before ++ here) groups))
 
 pub append-apart : (xs ys : List Addr) → AreApart xs → AreApart ys → AllByRecursion (λ z. is_listed z xs ≡ false) ys → AreApart (xs ++ ys)
 append-apart [] ys h k n = k
-append-apart (x ∷ xs) ys h k n = (
-  all-appended (λ z. same_address z x ≡ false) xs ys h.0 (all-weaker (λ z. is_listed z (x ∷ xs) ≡ false) (λ z. same_address z x ≡ false) (λ z none. grind (arith, none)) ys n),
-  append-apart xs ys h.1 k (all-weaker (λ z. is_listed z (x ∷ xs) ≡ false) (λ z. is_listed z xs ≡ false) (λ z none. grind (arith, none)) ys n),
-)
+append-apart (x ∷ xs) ys h k n = search (arith, all-appended, weaker, or_parts, append-apart xs ys h.1 k (weaker ys (λ z none. (or_parts (same_address z x) (is_listed z xs) none).1) n))
 
 cleaned_after-apart : (before : List Addr) (groups : List Group) → AreApart (members_of (cleaned_after before groups))
 unfolding cleaned_after
 cleaned_after-apart before [] = tt
 cleaned_after-apart before (g ∷ groups) =
     let here : List Addr = first_places before g.members in
-    let rest : List Addr = members_of (cleaned_after (before ++ here) groups) in
-    append-apart here rest (first_places-apart before g.members) (cleaned_after-apart (before ++ here) groups)
-    (all-weaker (λ x. is_listed x (before ++ here) ≡ false) (λ x. is_listed x here ≡ false)
-    (λ x h. (unlisted_append x before here h).1) rest (cleaned-none (before ++ here) groups))
+    append-apart here _ (first_places-apart before g.members) (cleaned_after-apart (before ++ here) groups)
+    (weaker _ (λ x h. (unlisted_append x before here h).1) (cleaned-none (before ++ here) groups))
 
 pub cleaned-apart : (own : Addr) (groups : List Group) → AreApart (members_of (cleaned own groups))
 cleaned-apart own groups = cleaned_after-apart (own ∷ []) groups

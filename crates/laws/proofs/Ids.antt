@@ -1,13 +1,15 @@
 -- How many ids and jobs an event gives out.
-use Rattle.std.proofs.Common.{ℕ, zero, suc, Bool, true, false, ◌||◌, nat_le, List, refl, ◌≤◌, arith}
+use Rattle.std.proofs.Common.{ℕ, ◌≡◌, ◌≤◌, Bool, true, false, ◌||◌, nat_le, List, [], ◌∷◌, map, Option, Some, None, refl, sym, subst, arith}
 use Rattle.laws.proofs.Words.{cond_both, false≢true}
-use Rattle.laws.specs.Words.{is_greeting, is_negotiated, FedBy, Item, Overwritten, Addr, Cid, Group, Job, RootAnswer, Found, Failed, Deadline, cleaned, members_of, awaits, Machine, Entry, entry_at, Effect, nothing_more, on_entry, for_each, peer_at, peer_is_ordinary, with_entry, ending, due, fires_as, fires, fires_some, fire_due, fire_all, clock_shows, peer_connects, dialed, dial_ends, comes_ordinary, locals_are, comes_big, roots_say, roots_answer, handled, handles, faulted, fed_with, feeds, comes_in, Event, Now, Govern, Accepted, Dialed, Bytes, Closed, Aims, Locals, Roots, BigAims, Bigs, peer_closes, targets_are, big_targets_are, bigs_are, bytes_come_in, step}
+use Rattle.laws.specs.Words.{AllByRecursion, is_greeting, is_negotiated, Overwritten, RootAnswer, Found, Failed, cleaned, members_of, awaits, Machine, Entry, entry_at, Effect, on_entry, for_each, peer_at, ending, fires_as, dialed, comes_ordinary, roots_say, handled, faulted, Event, Now, Govern, Accepted, Dialed, Bytes, Closed, Aims, Locals, Roots, BigAims, Bigs, step}
 use Rattle.laws.proofs.Walk.{Scope, Stands, found-stands, Kept, on_found, fires-walk, dialed-walk, big-walk, handled-walk, faulted-walk}
-use Rattle.laws.proofs.Numbers.{GivesNone, GivesOne, ending-none, for_each-none, gains_then, none_then, numbers_of, one_more, peer_comes-none, turns_at-none, unchanged, vanishes-none, Gains}
-use Rattle.laws.proofs.Cases.{by_option}
-use Rattle.laws.proofs.Connects.{connects-cases, stood-cases, closes-cases}
+use Rattle.laws.proofs.Numbers.{GivesNone, GivesOne, ending-none, for_each-none, gains_then, none_then, numbers_of, one_more, peer_comes-none, turns_at-none, unchanged, vanishes-none, Gains, govern-few}
+use Rattle.laws.specs.Acts.{Act, fires_one, asks_for_roots, carries, connects, ends_dial, handles_item, ends_stream, is_closed, sets_roots, makes_ordinary, provides, provides_big, does, acts_at_moment, acts_fed, acts_of_bytes, acts}
+use Rattle.laws.specs.AtMoves.{fed_on}
+use Rattle.laws.proofs.Chain.{parts-chain}
+use Rattle.laws.proofs.Lists.{all-appended}
+use Rattle.laws.proofs.Connects.{connects-cases, closes-cases}
 use Rattle.laws.specs.Steady.{IsFormed, GivesFew}
-use Rattle.laws.proofs.NumbersOfRules.{govern-few}
 
 -- ---- a part that dials nobody, and lets nobody in
 
@@ -17,111 +19,92 @@ anything = record { own = λ cid. true; comes = λ cid. true; drops = true; goes
 abbrev Given : Machine → Effect → Type 0
 Given m effect = GivesNone m effect.machine
 
+same-none : (m n : Machine) → numbers_of n ≡ numbers_of m → GivesNone m n
+same-none m n = unchanged
+
+never : (m n : Machine) → false ≡ true → GivesNone m n
+never m n wrong = absurd (false≢true wrong)
+
 none-kept : Kept anything Given
-none-kept = record {
-  when_nothing = λ m. unchanged refl;
-  when_both = λ m first next one two. none_then one two;
-  when_moved = λ happened m effect none h. h;
-  when_sent = λ cid bytes m may. unchanged refl;
-  when_turned = λ turn e m stands. unchanged refl;
-  when_stored = λ undecoded e m stands came. unchanged refl;
-  when_shut = λ e m stands drops. unchanged refl;
-  when_ended = λ cause e m. ending-none cause e m;
-  when_gone = λ e m itself. vanishes-none e m;
-  when_over = λ e m stands drops closed. unchanged refl;
-  when_dialed = λ addr m may. absurd (false≢true may);
-  when_admitted = λ addr m may. absurd (false≢true may);
-  when_turned_away = λ away m may. unchanged refl;
-  when_changed = λ addr change m same. turns_at-none (peer_at addr m) change m;
-  when_made = λ addr m may. turns_at-none (peer_at addr m) (λ p. record p { big = false }) m;
-  when_known = λ big addr m may. peer_comes-none big addr m;
-  when_forgotten = λ addr m may. unchanged refl;
-}
+none-kept = search (same-none, none_then, ending-none, vanishes-none, turns_at-none, peer_comes-none, never)
 
 found-none : (cid : ℕ) (act : Entry → Machine → Effect) (m : Machine) → ((e : Entry) → Stands anything e m → Given m (act e m)) → Given m (on_entry (entry_at cid m) act m)
 found-none cid act m each = on_found anything Given none-kept cid act m (λ e is. each e (found-stands anything cid m e is refl))
 
-fires-none : (d : Deadline) (m : Machine) → Given m (fires d m)
-fires-none d m = found-none d.cid.0 (fires_as d.kind) m (λ e stands. fires-walk anything Given none-kept d.kind e m refl stands (λ sort timely. absurd (false≢true timely)))
+-- ---- each act
 
-fire_due-none : (n : ℕ) (m : Machine) → Given m (fire_due n m)
-unfolding fire_due
-fire_due-none zero m = unchanged refl
-fire_due-none (suc n) m = by_option (due m) (λ o. ((w : Machine) → Given w (fire_due n w)) → Given m (fires_some o (fire_due n) m))
-    (λ is later. unchanged refl) (λ d is later. none_then (fires-none d m) (later (fires d m).machine)) (fire_due-none n)
+-- it asks for no public roots, orders nothing, lets nobody in, and sets no question
+abbrev is_still : Act → Bool
+is_still asks_for_roots = false
+is_still (carries order) = false
+is_still (connects addr) = false
+is_still (sets_roots roots) = false
+is_still other = true
 
-pub clock_shows-none : (t : ℕ) (m : Machine) → GivesNone m (clock_shows t m).machine
-clock_shows-none t m =
-    let n : Machine = record m { now = t } in
-    cond_both (nat_le t m.now) (nothing_more m) (fire_all n) (λ effect. GivesNone m effect.machine) (λ past. unchanged refl) (λ later. fire_due-none _ n)
+abbrev AreStill : List Act → Type 0
+AreStill = AllByRecursion (λ act. is_still act ≡ true)
 
--- ---- a dial ends
+act-none : (act : Act) (m : Machine) → is_still act ≡ true → Given m (does act m)
+act-none asks_for_roots m still = absurd (false≢true still)
+act-none (carries order) m still = absurd (false≢true still)
+act-none (connects addr) m still = absurd (false≢true still)
+act-none (sets_roots roots) m still = absurd (false≢true still)
+act-none (fires_one d) m still =
+    found-none d.cid.0 (fires_as d.kind) m (λ e stands. fires-walk anything Given none-kept d.kind e m refl stands (λ sort timely. absurd (false≢true timely)))
+act-none (ends_dial cid opened) m still =
+    found-none cid.0 (dialed opened) m (λ e stands. dialed-walk anything Given none-kept opened e m refl stands (λ dials failed. refl))
+act-none (handles_item cid item) m still =
+    found-none cid.0 (handled item) m (λ e stands. handled-walk anything Given none-kept e.facts.phase item e m refl refl stands)
+act-none (ends_stream cid fault) m still = found-none cid.0 (faulted fault) m (λ e stands. faulted-walk anything Given none-kept fault e m)
+act-none (is_closed cid) m still = closes-cases cid m (Given m) (unchanged refl) (λ e k s own. vanishes-none e m)
+act-none (makes_ordinary addr) m still = turns_at-none (peer_at addr m) (λ p. record p { big = false }) m
+act-none (provides addr) m still = peer_comes-none false addr m
+act-none (provides_big addr) m still = big-walk anything Given none-kept addr m refl
+act-none other m still = unchanged refl
 
-pub dial_ends-none : (cid : Cid) (opened : Bool) (m : Machine) → Given m (dial_ends cid opened m)
-dial_ends-none cid opened m = found-none cid.0 (dialed opened) m (λ e stands. dialed-walk anything Given none-kept opened e m refl stands (λ dials failed. refl))
+acts-none : (acts : List Act) (m : Machine) → AreStill acts → GivesNone m (for_each does acts m).machine
+unfolding for_each
+acts-none [] m all = unchanged refl
+acts-none (act ∷ acts) m all = none_then (act-none act m all.0) (acts-none acts (does act m).machine all.1)
 
--- ---- what is set and provided
+mapped-still : {X : Type 0} (name : X → Act) → ((x : X) → is_still (name x) ≡ true) → (xs : List X) → AreStill (map name xs)
+mapped-still name still [] = tt
+mapped-still name still (x ∷ xs) = (still x, mapped-still name still xs)
 
-pub comes_big-none : (addr : Addr) (m : Machine) → Given m (comes_big addr m)
-comes_big-none addr m = big-walk anything Given none-kept addr m refl
+bytes-still : (o : Option Entry) (bytes : List ℕ) → AreStill (acts_of_bytes o bytes)
+bytes-still None bytes = tt
+bytes-still (Some e) bytes = cond_both (is_greeting e.facts || is_negotiated e.facts) (acts_fed (fed_on e bytes) e) [] AreStill
+    (λ open_. (refl, all-appended _ (map (handles_item e.facts.cid) (fed_on e bytes).items) _ (mapped-still (handles_item e.facts.cid) (λ item. refl) _) (refl, tt))) (λ other. tt)
 
-pub locals_are-none : (groups : List Group) (m : Machine) → GivesNone m (locals_are groups m).machine
-locals_are-none groups m =
-    let members : List Addr = members_of (cleaned m.settings.own groups) in
-    let n : Machine = record m { groups = cleaned m.settings.own groups } in
-    let first = for_each-none peer_is_ordinary (λ addr o. turns_at-none (peer_at addr o) (λ p. record p { big = false }) o) members n in
-    let second = for_each-none comes_ordinary (λ addr o. peer_comes-none false addr o) members (for_each peer_is_ordinary members n).machine in
-    none_then first second
+-- ---- public roots
 
-roots_say-none : (answer : RootAnswer) (m : Machine) → GivesNone m (roots_say answer m).machine
-roots_say-none (Found ttl addrs) m = for_each-none comes_ordinary (λ addr o. peer_comes-none false addr o) _ _
-roots_say-none Failed m = unchanged refl
-
-pub roots_answer-none : (job : Job) (answer : RootAnswer) (m : Machine) → GivesNone m (roots_answer job answer m).machine
-roots_answer-none job answer m = cond_both (awaits job.0 m.roots) (roots_say answer m) (nothing_more m) (λ effect. GivesNone m effect.machine)
-    (λ awaited. roots_say-none answer m) (λ other. unchanged refl)
-
--- ---- bytes
-
-handles-none : (cid : Cid) (item : Item) (m : Machine) → Given m (handles cid item m)
-handles-none cid item m = found-none cid.0 (handled item) m (λ e stands. handled-walk anything Given none-kept e.facts.phase item e m refl refl stands)
-
-fed_with-none : (fed : FedBy) (e : Entry) (m : Machine) → GivesNone m (fed_with fed e m).machine
-fed_with-none fed e m =
-    let n : Machine = with_entry (record e { undecoded = fed.state.undecoded }) m in
-    let o : Machine = (for_each (handles e.facts.cid) fed.items n).machine in
-    let items = for_each-none (handles e.facts.cid) (handles-none e.facts.cid) fed.items n in
-    none_then items (found-none e.facts.cid.0 (faulted fed.state.fault) o (λ f stands. faulted-walk anything Given none-kept fed.state.fault f o))
-
-pub comes_in-none : (bytes : List ℕ) (e : Entry) (m : Machine) → GivesNone m (comes_in bytes e m).machine
-comes_in-none bytes e m = cond_both (is_greeting e.facts || is_negotiated e.facts) (feeds bytes e m) (nothing_more m)
-    (λ effect. GivesNone m effect.machine) (λ open_now. fed_with-none _ e m) (λ other. unchanged refl)
-
--- ---- a peer connects
-
-pub peer_connects-one : (addr : Addr) (m : Machine) → GivesOne m (peer_connects addr m).machine
-peer_connects-one addr m = connects-cases addr m (λ effect. GivesOne m effect.machine) (λ cause. unchanged refl) (λ room alone. one_more (numbers_of m))
-    (λ room e is pending. gains_then 0 1 (ending-none Overwritten e m) (one_more (numbers_of (ending Overwritten e m).machine)))
+roots-none : (answer : RootAnswer) (m : Machine) → GivesNone m (roots_say answer m).machine
+roots-none (Found ttl addrs) m = for_each-none comes_ordinary (λ addr o. peer_comes-none false addr o) _ _
+roots-none Failed m = unchanged refl
 
 -- ---- each event
 
-few : (ids : ℕ) (m n : Machine) → ids ≤ 20000 → Gains ids (numbers_of m) (numbers_of n) → GivesFew m n
-few ids m n less h = record { ids = omega (arith, less, h.id); jobs = omega (arith, h.job) }
+few : {ids : ℕ} {m n : Machine} → ids ≤ 20000 → Gains ids (numbers_of m) (numbers_of n) → GivesFew m n
+few less h = record { ids = omega (arith, less, h.id); jobs = omega (arith, h.job) }
 
-none_few : (m n : Machine) → GivesNone m n → GivesFew m n
-none_few m n h = few 0 m n (omega arith) h
+still-few : (m : Machine) (event : Event) → AreStill (acts m event) → GivesFew m (step m event).machine
+still-few m event still = subst (λ effect. GivesFew m effect.machine) (sym (parts-chain m event)) (few {ids = 0} (omega arith) (acts-none (acts m event) m still))
 
 pub step-few : (m : Machine) (event : Event) → IsFormed m → GivesFew m (step m event).machine
-step-few m (Now t) h = none_few m (clock_shows t m).machine (clock_shows-none t m)
+step-few m (Now t) h = still-few m (Now t) (cond_both (nat_le t m.now) [] (acts_at_moment t m) AreStill (λ past. tt) (λ later. (refl, mapped-still fires_one (λ d. refl) _)))
 step-few m (Govern word) h = govern-few word m h
-step-few m (Accepted addr) h = few 1 m (peer_connects addr m).machine (omega arith) (peer_connects-one addr m)
-step-few m (Dialed cid opened) h = none_few m (dial_ends cid opened m).machine (dial_ends-none cid opened m)
-step-few m (Bytes cid bytes) h = none_few m (bytes_come_in cid bytes m).machine
-    (stood-cases cid (comes_in bytes) m (λ effect. GivesNone m effect.machine) (unchanged refl) (λ e k s own. comes_in-none bytes e m))
-step-few m (Closed cid) h = none_few m (peer_closes cid m).machine
-    (closes-cases cid m (λ effect. GivesNone m effect.machine) (unchanged refl) (λ e k s own. vanishes-none e m))
-step-few m (Aims targets) h = none_few m (targets_are targets m).machine (unchanged refl)
-step-few m (Locals groups) h = none_few m (locals_are groups m).machine (locals_are-none groups m)
-step-few m (Roots job answer) h = none_few m (roots_answer job answer m).machine (roots_answer-none job answer m)
-step-few m (BigAims targets) h = none_few m (big_targets_are targets m).machine (unchanged refl)
-step-few m (Bigs addrs) h = none_few m (bigs_are addrs m).machine (for_each-none comes_big comes_big-none addrs m)
+step-few m (Accepted addr) h = few {ids = 1} (omega arith) (connects-cases addr m (λ effect. GivesOne m effect.machine) (λ cause. unchanged refl)
+    (λ room alone. one_more (numbers_of m)) (λ room e is pending. gains_then 0 1 (ending-none Overwritten e m) (one_more (numbers_of (ending Overwritten e m).machine))))
+step-few m (Dialed cid opened) h = still-few m (Dialed cid opened) (refl, tt)
+step-few m (Bytes cid bytes) h = still-few m (Bytes cid bytes) (bytes-still (entry_at cid.0 m) bytes)
+step-few m (Closed cid) h = still-few m (Closed cid) (refl, tt)
+step-few m (Aims targets) h = still-few m (Aims targets) (refl, tt)
+step-few m (Locals groups) h = still-few m (Locals groups) (
+  refl,
+  all-appended _ (map makes_ordinary (members_of (cleaned m.settings.own groups))) _
+      (mapped-still makes_ordinary (λ a. refl) _) (mapped-still provides (λ a. refl) _),
+)
+step-few m (Roots job answer) h = few {ids = 0} (omega arith) (cond_both (awaits job.0 m.roots) _ _ (λ (effect : Effect). GivesNone m effect.machine)
+    (λ awaited. roots-none answer m) (λ other. unchanged refl))
+step-few m (BigAims targets) h = still-few m (BigAims targets) (refl, tt)
+step-few m (Bigs addrs) h = still-few m (Bigs addrs) (mapped-still provides_big (λ a. refl) addrs)

@@ -1,21 +1,20 @@
 -- No more addresses come into the book than are wanted.
-use Rattle.std.proofs.Common.{◌+◌, ◌-◌, ◌≤◌, ◌<◌, ◌≡◌, Bool, true, false, if◌then◌else◌, List, [], ◌∷◌, ◌++◌, length, Option, Some, None, sym, ap, ◌∙◌, subst, arith}
+use Rattle.std.proofs.Common.{◌+◌, ◌-◌, ◌≤◌, ◌<◌, ◌≡◌, Bool, false, List, [], ◌∷◌, ◌++◌, length, Option, Some, None, sym, ap, ◌∙◌, subst, arith}
 use Rattle.laws.proofs.Words.{length-take, count_by-put_in}
-use Rattle.laws.specs.Words.{AllByRecursion, Addr, Peer, is_of, known_of, new_peer, entered, room_for, is_new, taken_after, Share, Peers, Machine, Effect, Happened, shared, nothing_more, as_move, for_each, peer_comes, is_wanted_big, comes_big, bigs_are, shares_address, taken_of, takes_addresses}
+use Rattle.laws.specs.Words.{AllByRecursion, Addr, Peer, known_of, new_peer, entered, Share, Peers, Machine, Effect, Happened, shared, as_move, for_each, peer_comes, shares_address, takes_addresses}
 use Rattle.peer_book.specs.Book.{peer_at as peer_in}
 use Rattle.laws.specs.AtMoves.{known_wanted, IsWantedNew, WithinTargets}
 use Rattle.laws.proofs.Lawful.{comes-machine, comes-providing, Within}
 use Rattle.laws.proofs.Lists.{all-appended}
 use Rattle.laws.proofs.Spending.{one-most}
 use Rattle.laws.proofs.Ties.{put_in-here}
-use Rattle.laws.proofs.Cases.{by_bool, some_same}
+use Rattle.laws.proofs.Cases.{some_same}
 use Rattle.laws.proofs.PeersApart.{entered-cases}
 
 -- a part that is one move
 pub move-within : (happened : Happened) (before : Machine) (effect : Effect) → effect.moves ≡ [] → WithinTargets happened before effect.machine →
     AllByRecursion Within (as_move happened before effect).moves
-move-within happened before effect none within =
-    subst (λ moves. AllByRecursion Within (moves ++ record { happened = happened; before = before; after = effect.machine } ∷ [])) (sym none) (within, tt)
+move-within happened before effect none within = search arith
 
 -- ---- an address comes into the book
 
@@ -24,10 +23,7 @@ came big addr m = record m { peers = entered (new_peer big addr) m.peers }
 
 -- at most one more is known of its class
 entered-known : (big : Bool) (addr : Addr) (ps : List Peer) → known_of big (entered (new_peer big addr) ps) ≤ known_of big ps + 1
-entered-known big addr ps = entered-cases (new_peer big addr) ps (λ qs. known_of big qs ≤ known_of big ps + 1) (omega arith)
-    (λ absent room.
-    let count = count_by-put_in (λ p. p.addr) (is_of big) (new_peer big addr) ps in
-    omega (arith, count, one-most (is_of big (new_peer big addr))))
+entered-known big addr ps = search (arith, count_by-put_in, one-most)
 
 -- whoever was not there and is found is of its class
 entered-class : (big : Bool) (addr : Addr) (ps : List Peer) (p : Peer) → peer_in addr ps ≡ None → peer_in addr (entered (new_peer big addr) ps) ≡ Some p →
@@ -37,17 +33,10 @@ entered-class big addr ps p none = entered-cases (new_peer big addr) ps (λ qs. 
     (λ absent room here. ap (λ q. q.big) (some_same p (new_peer big addr) (sym here ∙ put_in-here (new_peer big addr) ps none)))
 
 came-within : (big : Bool) (addr : Addr) (m : Machine) → known_of big m.peers < known_wanted big m → IsWantedNew addr m (came big addr m)
-came-within big addr m fewer none p found =
-    grind (arith, fewer, entered-class big addr m.peers p none found, entered-known big addr m.peers)
+came-within big addr m fewer none p found = search (arith, entered-class, entered-known)
 
--- an address that comes as a move
-abbrev coming : Bool → Addr → Machine → Effect
-coming big addr m = as_move (shared addr) m (peer_comes big addr m)
-
-coming-within : (big : Bool) (addr : Addr) (m : Machine) → known_of big m.peers < known_wanted big m → AllByRecursion Within (coming big addr m).moves
-coming-within big addr m fewer =
-    move-within (shared addr) m (peer_comes big addr m) (comes-providing big addr m).moves
-    (subst (λ n. IsWantedNew addr m n) (sym (comes-machine big addr m)) (came-within big addr m fewer))
+pub comes-wanted : (big : Bool) (addr : Addr) (m : Machine) → known_of big m.peers < known_wanted big m → IsWantedNew addr m (peer_comes big addr m).machine
+comes-wanted big addr m fewer = subst (IsWantedNew addr m) (sym (comes-machine big addr m)) (came-within big addr m fewer)
 
 -- ---- addresses that a peer told
 
@@ -58,26 +47,10 @@ shares-within [] m h = tt
 shares-within (a ∷ addrs) m h =
     let n : Machine = (shares_address a m).machine in
     all-appended Within (shares_address a m).moves (for_each shares_address addrs n).moves
-    (coming-within false a m (omega (arith, h)))
+    (move-within (shared a) m (peer_comes false a m) (comes-providing false a m).moves (comes-wanted false a m (omega (arith, h))))
     (shares-within addrs n (subst (λ o. length addrs ≤ known_wanted false o - known_of false o.peers) (sym (comes-machine false a m))
     (let most = entered-known false a m.peers in omega (arith, h, most))))
 
 pub takes-within : (o : Option Share) (m : Machine) → AllByRecursion Within (takes_addresses o m).moves
-takes-within (Some (Peers told)) m =
-    let most = length-take (room_for (known_wanted false m) m.peers) (taken_after [] (is_new m.settings.own m.settings.version m.peers) told) in
-    shares-within (taken_of told m) m (omega (arith, most))
+takes-within (Some (Peers told)) m = search (arith, length-take, shares-within)
 takes-within other m = tt
-
--- ---- big ledger peers that are set
-
-comes_big-within : (addr : Addr) (m : Machine) → AllByRecursion Within (comes_big addr m).moves
-comes_big-within addr m = by_bool (is_wanted_big addr m) (λ b. AllByRecursion Within (if b then coming true addr m else nothing_more m).moves)
-    (λ wanted. coming-within true addr m (grind (arith, wanted)))
-    (λ other. tt)
-
-pub bigs-within : (addrs : List Addr) (m : Machine) → AllByRecursion Within (bigs_are addrs m).moves
-unfolding for_each
-bigs-within [] m = tt
-bigs-within (a ∷ addrs) m =
-    let n : Machine = (comes_big a m).machine in
-    all-appended Within (comes_big a m).moves (bigs_are addrs n).moves (comes_big-within a m) (bigs-within addrs n)

@@ -1,13 +1,16 @@
 -- The deadline that fires is the least of all.
-use Rattle.std.proofs.Common.{ℕ, ◌≤◌, ◌<◌, ◌≡◌, Bool, true, false, ◌&&◌, ◌||◌, ◌==◌, nat_lt, nat_le, if◌then◌else◌, List, [], ◌∷◌, filter, Option, Some, None, refl, sym, subst, arith, leb-true, leb-false}
+use Rattle.std.proofs.Common.{ℕ, ◌≤◌, ◌≡◌, Bool, true, false, ◌&&◌, ◌||◌, ◌==◌, nat_lt, nat_le, if◌then◌else◌, List, [], ◌∷◌, filter, Some, refl, sym, subst, arith, leb-true, leb-false}
 use Rattle.laws.proofs.Words.{All-from_recursion}
 use Rattle.laws.specs.Words.{AllByRecursion, deadline_before, kind_place, Deadline, deadlines, due, earlier, least, Machine}
 use Rattle.laws.specs.Parts.{IsLeastDue}
 use Rattle.laws.proofs.Firing.{least-none, due-contains}
 use Rattle.laws.specs.Steady.{IsOrdered}
-use Rattle.laws.proofs.Lists.{all-weaker}
+use Rattle.laws.proofs.Each.{weaker}
 use Rattle.laws.proofs.Moments.{due-waited}
-use Rattle.laws.proofs.Cases.{by_bool}
+use Rattle.laws.proofs.Cases.{by_bool, by_option, some_same}
+
+abbrev lower : (a b i j x y : ℕ) → Bool
+lower a b i j x y = nat_lt a b || (a == b && (nat_lt i j || (i == j && nat_lt x y)))
 
 -- of three, where neither the first is before the second nor the second before the third: by one number, and then the rest
 none_before : (a b c : ℕ) (p q r : Bool) → (nat_lt a b || (a == b && p)) ≡ false → (nat_lt b c || (b == c && q)) ≡ false → (p ≡ false → q ≡ false → r ≡ false) →
@@ -15,53 +18,35 @@ none_before : (a b c : ℕ) (p q r : Bool) → (nat_lt a b || (a == b && p)) ≡
 none_before a b c false false r one two rest = grind (arith, one, two, rest refl refl)
 none_before a b c p q r one two rest = grind (arith, one, two)
 
-abbrev kinds : Deadline → Deadline → Bool
-kinds x y = nat_lt (kind_place x.kind) (kind_place y.kind)
+none_lower : (a b c i j k x y z : ℕ) → lower a b i j x y ≡ false → lower b c j k y z ≡ false → lower a c i k x z ≡ false
+none_lower a b c i j k x y z one two = none_before a b c _ _ _ one two (λ p q. none_before i j k _ _ _ p q (λ x y. grind (arith, x, y)))
 
-abbrev ids : Deadline → Deadline → Bool
-ids x y = nat_lt x.cid.0 y.cid.0 || (x.cid.0 == y.cid.0 && kinds x y)
+one_lower : (a b i j x y : ℕ) → lower a b i j x y ≡ true → lower b a j i y x ≡ false
+one_lower a b i j x y h = grind arith
 
 not_before : (a b c : Deadline) → deadline_before a b ≡ false → deadline_before b c ≡ false → deadline_before a c ≡ false
-not_before a b c one two =
-    none_before a.at b.at c.at (ids a b) (ids b c) (ids a c) one two
-    (λ p q. none_before a.cid.0 b.cid.0 c.cid.0 (kinds a b) (kinds b c) (kinds a c) p q
-    (λ x y. none_lower (kind_place a.kind) (kind_place b.kind) (kind_place c.kind) x y))
-  where
-    none_lower : (x y z : ℕ) → nat_lt x y ≡ false → nat_lt y z ≡ false → nat_lt x z ≡ false
-    none_lower x y z one two = grind (arith, one, two)
+not_before a b c one two = none_lower a.at b.at c.at a.cid.0 b.cid.0 c.cid.0 (kind_place a.kind) (kind_place b.kind) (kind_place c.kind) one two
 
 before_other : (a b : Deadline) → deadline_before a b ≡ true → deadline_before b a ≡ false
-before_other a b h = before_other_by a.at b.at a.cid.0 b.cid.0 (kind_place a.kind) (kind_place b.kind) h
-  where
-    before_other_by : (a b i j x y : ℕ) → (nat_lt a b || (a == b && (nat_lt i j || (i == j && nat_lt x y)))) ≡ true →
-        (nat_lt b a || (b == a && (nat_lt j i || (j == i && nat_lt y x)))) ≡ false
-    before_other_by a b i j x y h = grind arith
+before_other a b h = one_lower a.at b.at a.cid.0 b.cid.0 (kind_place a.kind) (kind_place b.kind) h
 
 before_itself : (a : Deadline) → deadline_before a a ≡ false
 before_itself a = grind arith
 
 least-first : (ds : List Deadline) (d : Deadline) → least ds ≡ Some d → AllByRecursion (λ x. deadline_before x d ≡ false) ds
 least-first [] d e = tt
-least-first (x ∷ xs) d e = by_least (least xs) (least-first xs) refl e
-  where
-    by_least : (o : Option Deadline) → ((y : Deadline) → o ≡ Some y → AllByRecursion (λ z. deadline_before z y ≡ false) xs) → least xs ≡ o → Some (earlier x o) ≡ Some d →
-        AllByRecursion (λ z. deadline_before z d ≡ false) (x ∷ xs)
-    by_least None later is same =
-        subst (λ w. AllByRecursion (λ z. deadline_before z w ≡ false) (x ∷ xs)) (let s : x ≡ d = cc in s)
-        (before_itself x, subst (AllByRecursion (λ z. deadline_before z x ≡ false)) (sym (least-none xs is)) tt)
-    by_least (Some y) later is same =
-        subst (λ w. AllByRecursion (λ z. deadline_before z w ≡ false) (x ∷ xs)) (let s : earlier x (Some y) ≡ d = cc in s) (by_bool (deadline_before y x)
-        (λ b. AllByRecursion (λ z. deadline_before z (if b then y else x) ≡ false) (x ∷ xs))
-        (λ before. (before_other y x before, later y refl))
-        (λ after. (before_itself x, all-weaker (λ z. deadline_before z y ≡ false) (λ z. deadline_before z x ≡ false) (λ z h. not_before z y x h after) xs (later y refl))))
+least-first (x ∷ xs) d e = by_option (least xs)
+    (λ o. ((y : Deadline) → o ≡ Some y → AllByRecursion (λ z. deadline_before z y ≡ false) xs) → Some (earlier x o) ≡ Some d → AllByRecursion (λ z. deadline_before z d ≡ false) (x ∷ xs))
+    (λ is later same. subst (λ w. AllByRecursion (λ z. deadline_before z w ≡ false) (x ∷ xs)) (some_same x d same)
+    (before_itself x, subst (AllByRecursion (λ z. deadline_before z x ≡ false)) (sym (least-none xs is)) tt))
+    (λ y is later same. subst (λ w. AllByRecursion (λ z. deadline_before z w ≡ false) (x ∷ xs)) (some_same (earlier x (Some y)) d same) (by_bool (deadline_before y x)
+    (λ b. AllByRecursion (λ z. deadline_before z (if b then y else x) ≡ false) (x ∷ xs))
+    (λ before. (before_other y x before, later y refl))
+    (λ after. (before_itself x, weaker xs (λ z h. not_before z y x h after) (later y refl))))) (least-first xs) e
 
 -- one that is not due yet is not before one that is
 later : (now : ℕ) (x d : Deadline) → d.at ≤ now → nat_le x.at now ≡ false → deadline_before x d ≡ false
-later now x d due_by after =
-    later_by x.at d.at (nat_lt x.cid.0 d.cid.0 || (x.cid.0 == d.cid.0 && nat_lt (kind_place x.kind) (kind_place d.kind))) (leb-false x.at now after) due_by
-  where
-    later_by : (a b : ℕ) (rest : Bool) → now < a → b ≤ now → (nat_lt a b || (a == b && rest)) ≡ false
-    later_by a b rest above below = grind (arith, above, below)
+later now x d due_by after = grind (arith, leb-false x.at now after)
 
 not_due : (now : ℕ) (d : Deadline) → d.at ≤ now → (ds : List Deadline) → AllByRecursion (λ x. deadline_before x d ≡ false) (filter (λ x. nat_le x.at now) ds) →
     AllByRecursion (λ x. deadline_before x d ≡ false) ds

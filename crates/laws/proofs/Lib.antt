@@ -5,7 +5,6 @@ pub mod Events
 pub mod Firing
 pub mod Ids
 mod Numbers
-mod NumbersOfRules
 pub mod Lists
 pub mod Moves
 pub mod Settings
@@ -24,7 +23,6 @@ mod Falls
 mod OpenEnds
 mod Lingers
 mod Heats
-mod Known
 mod Classes
 mod Ordering
 mod Governing
@@ -33,7 +31,6 @@ mod Locals
 mod Orders
 mod PeersApart
 mod Owing
-mod Sharing
 mod Ordinary
 mod OwnAddress
 pub mod Keeping
@@ -56,7 +53,6 @@ mod KnownWanted
 mod Clock
 mod Spending
 mod Wanted
-mod EventMoves
 mod Telling
 mod ToldMoves
 mod Chain
@@ -78,5 +74,7 @@ mod WaitsOfParts
 mod Pruning
 mod Walk
 mod Cases
+mod Each
+mod Books
 pub mod Words
 mod Items

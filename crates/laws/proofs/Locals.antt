@@ -1,7 +1,7 @@
 -- Local peers: the members of the groups, taken together and group by group.
 use Rattle.std.proofs.Common.{◌≡◌, Bool, true, false, List, [], ◌∷◌, All, is_some, refl, arith}
 use Rattle.laws.proofs.Words.{not-true, All-from_recursion, recursion_from_All, fails_before_first, list_any-append}
-use Rattle.laws.specs.Words.{AllByRecursion, position, same_address, Addr, Group, is_not_local, is_listed, members_of, group_of}
+use Rattle.laws.specs.Words.{AllByRecursion, position, same_address, Addr, Group, is_not_local, is_listed, members_of}
 use Rattle.laws.specs.Laws.{is_local}
 use Rattle.laws.proofs.GroupsApart.{unlisted_append}
 
@@ -24,6 +24,4 @@ unplaced p xs none k d inside = fails_before_first p xs k d (grind (arith, none,
 
 -- The rules see the same.
 pub not_local-no_member : (a : Addr) (groups : List Group) → is_not_local groups a ≡ true → is_local groups a ≡ false
-not_local-no_member a groups h =
-    not_in-all a groups (recursion_from_All (λ group. is_listed a group.members ≡ false) groups
-    (unplaced (λ group. is_listed a group.members) groups (not-true (is_some (group_of a groups)) h)))
+not_local-no_member a groups h = search (arith, not_in-all, recursion_from_All, unplaced, not-true)

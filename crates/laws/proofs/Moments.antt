@@ -1,7 +1,7 @@
 -- Whatever is waited for is ahead, what fires is waited for, and is over then.
-use Rattle.std.proofs.Common.{ℕ, ◌<◌, ◌≡◌, true, ◌==◌, List, [], ◌∷◌, ◌++◌, map, flat_map, find, Option, Some, None, All, ap, ◌∙◌, subst, arith, cond}
+use Rattle.std.proofs.Common.{ℕ, ◌<◌, ◌≡◌, ◌==◌, List, [], ◌∷◌, ◌++◌, map, flat_map, find, Option, Some, None, All, ap, ◌∙◌, subst, arith, cond}
 use Rattle.laws.proofs.Words.{All-contains, All-head, All-tail}
-use Rattle.laws.specs.Words.{option_map, has_id, CloseCause, Grace, Off, ForRemote, ForLocal, Phase, Greeting, Closing, Deadline, Kind, timer, with_entry, without_entry, ending, deadlines_of, phase_deadlines, grace_deadlines, reply_deadline, due, Machine, Entry, Owed, entry_at, reply_on, is_owed_on, Cid}
+use Rattle.laws.specs.Words.{option_map, has_id, CloseCause, Grace, Off, ForRemote, ForLocal, Phase, Greeting, Closing, Deadline, Kind, timer, with_entry, without_entry, ending, deadlines_of, phase_deadlines, grace_deadlines, reply_deadline, due, Machine, Entry, Owed, entry_at, reply_on, Cid}
 use Rattle.laws.specs.Words.kind
 use Rattle.laws.specs.Laws.{DeadlinesAhead}
 use Rattle.laws.specs.Moments.{WaitsAhead}
@@ -42,27 +42,19 @@ reply-ahead now cid (o ∷ owed) protocol all =
 entry-ahead : (now : ℕ) (e : Entry) → AreAhead now (deadlines_of e) → (sort : Kind) → IsAhead now (until_of sort e)
 entry-ahead now e all = by_kind
   where
-    opening : List Deadline
-    opening = phase_deadlines e.facts.cid e.facts.phase
-
-    unused : List Deadline
-    unused = grace_deadlines e.facts.cid e.facts.grace
-
-    replies : List Deadline
-    replies = map (reply_deadline e.facts.cid) e.owed
-
-    first : AreAhead now (opening ++ unused)
-    first = All-front (λ d. now < d.at) (opening ++ unused) replies all
+    before : AreAhead now (phase_deadlines e.facts.cid e.facts.phase ++ grace_deadlines e.facts.cid e.facts.grace)
+    before = All-front (λ d. now < d.at) _ (map (reply_deadline e.facts.cid) e.owed) all
 
     in_phase : IsAhead now (until_greeted e.facts.phase) × IsAhead now (until_gone e.facts.phase)
-    in_phase = phase-ahead now e.facts.cid e.facts.phase (All-front (λ d. now < d.at) opening unused first)
+    in_phase = phase-ahead now e.facts.cid e.facts.phase (All-front (λ d. now < d.at) _ (grace_deadlines e.facts.cid e.facts.grace) before)
 
     owed : (protocol : ℕ) → IsAhead now (until_paid (reply_on protocol e))
-    owed protocol = reply-ahead now e.facts.cid e.owed protocol (All-behind (λ d. now < d.at) (opening ++ unused) replies all)
+    owed protocol = reply-ahead now e.facts.cid e.owed protocol
+        (All-behind (λ d. now < d.at) (phase_deadlines e.facts.cid e.facts.phase ++ grace_deadlines e.facts.cid e.facts.grace) _ all)
 
     by_kind : (sort : Kind) → IsAhead now (until_of sort e)
     by_kind kind.Handshake = in_phase.0
-    by_kind kind.Grace = grace-ahead now e.facts.cid e.facts.grace (All-behind (λ d. now < d.at) opening unused first)
+    by_kind kind.Grace = grace-ahead now e.facts.cid e.facts.grace (All-behind (λ d. now < d.at) (phase_deadlines e.facts.cid e.facts.phase) _ before)
     by_kind kind.TimeWait = in_phase.1
     by_kind kind.Reply2 = owed 2
     by_kind kind.Reply8 = owed 8
@@ -87,10 +79,7 @@ one-owed : (e : Entry) → IsOwing e → (protocol : ℕ) → OnePasses (λ o. o
 one-owed e h protocol i j d before inside here = grind (arith, here, h.rises i j d before inside)
 
 reply-waited : (e : Entry) → IsOwing e → (k : ℕ) (owed : Owed) → StandsAt e.owed k owed → IsWaited e (reply_deadline e.facts.cid owed)
-reply-waited e h k owed s =
-    let found : (protocol : ℕ) → (owed.protocol == protocol) ≡ true → reply_on protocol e ≡ Some owed =
-    λ protocol on. find_only (λ o. o.protocol == protocol) owed e.owed k (one-owed e h protocol) s on in
-    grind (arith, found 2, found 8, found 10, All-stands (λ o. is_owed_on o.protocol ≡ true) e.owed k owed s h.protocols)
+reply-waited e h k owed s = search (arith, find_only, one-owed)
 
 pub due-waited : (m : Machine) (d : Deadline) → IsOrdered m → due m ≡ Some d → until_at d.kind d.cid.0 m ≡ Some d.at
 due-waited m d h is =
@@ -109,8 +98,7 @@ pub gone-none : (cid : ℕ) (m : Machine) → entry_at cid (without_entry cid m)
 gone-none cid m = grind (arith, gone-found cid cid m.connections)
 
 pub ending-none : (cause : CloseCause) (e : Entry) (m : Machine) → entry_at e.facts.cid.0 (ending cause e m).machine ≡ None
-ending-none cause e m =
-    ap (find (λ x. has_id e.facts.cid.0 x.facts)) (lost_by-quiet cause e.facts (without_entry e.facts.cid.0 m)).connections ∙ gone-none e.facts.cid.0 m
+ending-none cause e m = search (arith, lost_by-quiet, gone-none)
 
 -- where one is found, what it turned into is
 pub turned-found : (e new : Entry) (m : Machine) → new.facts.cid ≡ e.facts.cid → entry_at e.facts.cid.0 (with_entry new m) ≡ option_map (λ x. new) (entry_at e.facts.cid.0 m)

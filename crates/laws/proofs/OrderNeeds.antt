@@ -1,18 +1,16 @@
 -- The orders of each rule may be carried out, one after the other: each is due, and there are ids left, since all of them together
 -- give out few.
-use Rattle.std.proofs.Common.{ℕ, ◌+◌, ◌^◌, ◌≤◌, ◌≡◌, true, not, ◌||◌, List, [], ◌∷◌, ◌++◌, IsSomeAnd, sym, subst, arith, ap}
-use Rattle.laws.specs.Words.{Cold, is_acquirable, Order, Ask, Forget, Promote, Release, Machine, counted_in, for_each, peer_at, carries_out, asks_roots, ordinary_rules, big_rules, rules}
+use Rattle.std.proofs.Common.{ℕ, ◌+◌, ◌^◌, ◌≤◌, ◌≡◌, List, [], ◌∷◌, ◌++◌, IsSomeAnd, sym, subst, arith, ap}
+use Rattle.laws.specs.Words.{Cold, Order, Ask, Forget, Promote, Release, Machine, counted_in, for_each, peer_at, carries_out, asks_roots, ordinary_rules, big_rules, rules}
 use Rattle.laws.specs.Acts.{orders_of}
-use Rattle.laws.specs.AtMoves.{some_connection}
 use Rattle.laws.specs.OrderNeeds.{MayGovern, MayCarry, MayAll, MayFollow}
-use Rattle.laws.specs.Ordered.{is_any, MayBeForgotten, MayBePromoted, IsOne, IsDueOrder}
+use Rattle.laws.specs.Ordered.{MayBeForgotten, IsOne, IsDueOrder}
 use Rattle.laws.specs.Steady.{IsOrdered}
 use Rattle.laws.proofs.Cases.{by_option}
 use Rattle.laws.proofs.Chain.{rules-chain}
 use Rattle.laws.proofs.Governing.{Governs, governs, asks_roots-keeps}
-use Rattle.laws.proofs.NumbersOfRules.{rules-give}
-use Rattle.laws.proofs.Ordering.{EachDue}
-use Rattle.laws.proofs.Orders.{EachAccounted}
+use Rattle.laws.proofs.Numbers.{rules-give}
+use Rattle.laws.proofs.Ordering.{AreRight}
 use Rattle.laws.proofs.Promotions.{free-may}
 use Rattle.laws.proofs.WaitsOfParts.{order-waits}
 use Rattle.laws.proofs.RootsAsked.{roots-set}
@@ -21,36 +19,22 @@ use Rattle.laws.proofs.RootsAsked.{roots-set}
 
 due-may : (order : Order) (m : Machine) → IsOrdered m → m.next_id ≤ 2 ^ 48 → IsDueOrder order m → MayCarry order m
 due-may (Ask addr n) m h few due = tt
-due-may (Forget addr) m h few due = by_option (peer_at addr m) (λ o. IsOne o (λ p. MayBeForgotten addr p m) → IsSomeAnd o (λ p. p.temp ≡ Cold))
-    (λ is never. elim never [ ]) (λ p is one. one.cold) due
-due-may (Promote addr) m h few due = record {
-  free = free-may addr m h (by_option (peer_at addr m)
-      (λ o. IsOne o (λ p. MayBePromoted addr p m) → (not (some_connection is_any addr m) || some_connection (λ e. is_acquirable e.facts) addr m) ≡ true)
-      (λ is never. elim never [ ]) (λ p is one. one.free) due);
-  few_ids = few;
-}
+due-may (Forget addr) m h few due = search arith
+due-may (Promote addr) m h few due = search (arith, free-may)
 due-may (Release addr) m h few due = tt
 due-may other m h few due = tt
 
 -- ---- one order after the other
 
-rises : (orders : List Order) (m : Machine) → EachAccounted orders m → m.next_id ≤ (for_each carries_out orders m).machine.next_id
+rises : (orders : List Order) (m : Machine) → AreRight orders m → m.next_id ≤ (for_each carries_out orders m).machine.next_id
 unfolding for_each
 rises [] m h = omega arith
-rises (o ∷ orders) m h =
-    let first = (order-waits o m h.0.ordered).next in
-    let rest = rises orders (carries_out o m).machine h.1 in
-    omega (arith, first, rest)
+rises (o ∷ orders) m h = search (arith, order-waits, rises orders (carries_out o m).machine h.1)
 
-all-may : (orders : List Order) (m : Machine) → EachAccounted orders m → EachDue orders m → (for_each carries_out orders m).machine.next_id ≤ 2 ^ 48 → MayAll orders m
+all-may : (orders : List Order) (m : Machine) → AreRight orders m → (for_each carries_out orders m).machine.next_id ≤ 2 ^ 48 → MayAll orders m
 unfolding MayAll for_each
-all-may [] m h due few = tt
-all-may (o ∷ orders) m h due few =
-    let first = (order-waits o m h.0.ordered).next in
-    let rest = rises orders (carries_out o m).machine h.1 in (
-      due-may o m h.0.ordered (omega (arith, first, rest, few)) due.0,
-      all-may orders (carries_out o m).machine h.1 due.1 few,
-    )
+all-may [] m h few = tt
+all-may (o ∷ orders) m h few = search (arith, order-waits, rises, due-may, all-may orders (carries_out o m).machine h.1 few)
 
 both-may : (xs ys : List Order) (m : Machine) → MayAll (xs ++ ys) m → MayAll xs m × MayAll ys (for_each carries_out xs m).machine
 unfolding MayAll for_each
@@ -66,9 +50,9 @@ follow (r ∷ each) m h =
       follow each (rules r m).machine parts.1,
     )
 
-all-follow : (each : List (Machine → List Order)) (m : Machine) → EachAccounted (orders_of each m) m → EachDue (orders_of each m) m →
+all-follow : (each : List (Machine → List Order)) (m : Machine) → AreRight (orders_of each m) m →
     (for_each rules each m).machine.next_id ≤ 2 ^ 48 → MayFollow each m
-all-follow each m h due few = follow each m (all-may (orders_of each m) m h due (subst (λ effect. effect.machine.next_id ≤ 2 ^ 48) (rules-chain each m) few))
+all-follow each m h few = follow each m (all-may (orders_of each m) m h (subst (λ effect. effect.machine.next_id ≤ 2 ^ 48) (rules-chain each m) few))
 
 -- ---- the governor
 
@@ -85,6 +69,6 @@ govern-may word m h within room =
     let later : o.next_id ≤ (for_each rules (big_rules word) o).machine.next_id =
     subst (λ effect. o.next_id ≤ effect.machine.next_id) (sym (rules-chain (big_rules word) o)) (rises (orders_of (big_rules word) o) o g.big) in
     record {
-      ordinary = all-follow (ordinary_rules word) n g.ordinary g.ordinary_due (omega (arith, later, most));
-      big = all-follow (big_rules word) o g.big g.big_due most;
+      ordinary = all-follow (ordinary_rules word) n g.ordinary (omega (arith, later, most));
+      big = all-follow (big_rules word) o g.big most;
     }

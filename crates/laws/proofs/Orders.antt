@@ -1,7 +1,7 @@
 -- The governor's orders, one by one: the connections stay in order and within the limit, and peers tied to them.
-use Rattle.std.proofs.Common.{ℕ, ◌+◌, ◌≤◌, ◌≡◌, Bool, true, false, ◌&&◌, not, ◌||◌, ◌==◌, if◌then◌else◌, List, [], ◌∷◌, find, set, Option, Some, None, is_some, refl, sym, ap, ◌∙◌, subst, arith}
-use Rattle.laws.proofs.Words.{cond_both, both_ways, false≢true, and_parts, or_right}
-use Rattle.laws.specs.Words.{AllByRecursion, same_address, Addr, Facts, Peer, Cold, Warm, is_counted, released, agreed_sharing, is_live, is_live_at, is_negotiated, is_pending, Order, Ask, Forget, Release, Activate, Deactivate, is_established, Machine, Entry, counted_in, live_entry_at, Effect, Move, activated, nothing_more, then_do, as_move, for_each, on_entry, peer_at, peer_becomes, peer_was_asked, peer_goes, sends_as_initiator, owing, reply_on, peer_sharing_done, chain_sync_done, find_intersect, with_entry, entry_turns, says_done, trim, release, is_used_at, on_used, asks_peer, activates, deactivates, carries_out, written_alive, written_request, Done}
+use Rattle.std.proofs.Common.{ℕ, ◌+◌, ◌≤◌, ◌≡◌, true, false, ◌&&◌, not, ◌||◌, ◌==◌, if◌then◌else◌, find, set, Option, Some, None, is_some, refl, sym, ap, ◌∙◌, subst, arith}
+use Rattle.laws.proofs.Words.{both_ways, false≢true, false_from_ne_true, and_parts, or_right}
+use Rattle.laws.specs.Words.{same_address, Addr, Facts, Peer, Cold, Warm, is_counted, released, agreed_sharing, is_live, is_live_at, is_pending, Order, Ask, Forget, Release, Activate, Deactivate, is_established, Machine, Entry, counted_in, live_entry_at, Effect, Move, activated, nothing_more, then_do, as_move, on_entry, peer_at, peer_becomes, peer_was_asked, peer_goes, sends_as_initiator, owing, reply_on, chain_sync_done, find_intersect, with_entry, entry_turns, says_done, trim, release, is_used_at, on_used, asks_peer, activates, deactivates, carries_out, written_request}
 use Rattle.laws.specs.AtMoves.{IsReady, IsLawful, is_up_connection, is_up, is_hot_peer, is_asked_connection, is_hot_or_asked, is_known, promotes, activates as activation, shares}
 use Rattle.laws.specs.Steady.{AreTied, TiedBy, IsTied, IsOrdered}
 use Rattle.laws.proofs.Addresses.{same_address-true}
@@ -30,42 +30,6 @@ use Rattle.laws.proofs.Cases.{by_bool, by_option}
 -- an order is carried out for whom it may be
 abbrev pub Carries : (Move → Type 0) → (Machine → Addr → Type 0) → (Addr → Order) → Type 0
 Carries Law May order = (addr : Addr) (m : Machine) → IsOrdered m → counted_in m ≤ m.settings.hard → May m addr → Trimmed Law m (carries_out (order addr) m)
-
-pub still_may : (May : Machine → Addr → Type 0) (m n : Machine) (a : Addr) (addrs : List Addr) →
-    ((b : Addr) → same_address b a ≡ false → May m b → May n b) →
-    AllByRecursion (λ b. same_address b a ≡ false) addrs → AllByRecursion (May m) addrs → AllByRecursion (May n) addrs
-still_may May m n a [] same others h = tt
-still_may May m n a (b ∷ addrs) same others h = (same b others.0 h.0, still_may May m n a addrs same others.1 h.1)
-
--- each order accounts for what it does, on a machine that is in order
-pub record IsAccountedFor (order : Order) (m : Machine) : Type 0 where
-  pub ordered : IsOrdered m
-  pub accounts : Accounts m (carries_out order m)
-
--- a law holds of each, where it is carried out
-abbrev pub EachOf : (Order → Machine → Type 0) → List Order → Machine → Type 0
-EachOf law [] m = Unit {0}
-EachOf law (order ∷ orders) m = law order m × EachOf law orders (carries_out order m).machine
-
-abbrev pub EachAccounted : List Order → Machine → Type 0
-EachAccounted orders m = EachOf IsAccountedFor orders m
-
--- orders were carried out one after the other
-pub record Followed (Law : Move → Type 0) (orders : List Order) (m : Machine) : Type 0 where
-  pub trimmed : Trimmed Law m (for_each carries_out orders m)
-  pub each : EachAccounted orders m
-
-pub nothing-followed : (Law : Move → Type 0) (m : Machine) → IsOrdered m → counted_in m ≤ m.settings.hard → Followed Law [] m
-unfolding for_each
-nothing-followed Law m h within = record { trimmed = nothing-trimmed Law m within h; each = tt }
-
-pub first-followed : (Law : Move → Type 0) (order : Order) (orders : List Order) (m : Machine) → IsOrdered m → Trimmed Law m (carries_out order m) →
-    Followed Law orders (carries_out order m).machine → Followed Law (order ∷ orders) m
-unfolding for_each
-first-followed Law order orders m ordered first rest = record {
-  trimmed = trimmed_then Law m (carries_out order m) (for_each carries_out orders) first rest.trimmed;
-  each = (record { ordered = ordered; accounts = first.accounted }, rest.each);
-}
 
 -- where nothing is asked of whom an order is for
 abbrev pub Always : Machine → Addr → Type 0
@@ -204,27 +168,15 @@ abbrev pub IsCold : Option Peer → Type 0
 IsCold None = ⊥
 IsCold (Some p) = p.temp ≡ Cold
 
-abbrev pub IsIdle : Option Entry → Type 0
-IsIdle None = Unit {0}
-IsIdle (Some e) = is_pending e.facts ≡ false
-
 -- it is cold, and not on its way
 pub record MayForget (m : Machine) (addr : Addr) : Type 0 where
   pub cold : IsCold (peer_at addr m)
-  pub idle : IsIdle (live_entry_at addr m)
+  pub idle : (e : Entry) → live_entry_at addr m ≡ Some e → is_pending e.facts ≡ false
 
-cold-alone : (now : ℕ) (p : Option Peer) (e : Option Entry) → IsCold p → IsIdle e → TiedBy now p e → TiedBy now None e
-cold-alone now None e cold idle tie = elim cold [ ]
+cold-alone : (now : ℕ) (p : Option Peer) (o : Option Entry) → IsCold p → ((e : Entry) → o ≡ Some e → is_pending e.facts ≡ false) → TiedBy now p o → TiedBy now None o
+cold-alone now None o cold idle tie = elim cold [ ]
 cold-alone now (Some p) None cold idle tie = tt
-cold-alone now (Some p) (Some e) cold idle tie = record {
-  unused = sym tie.established ∙ ap is_established cold;
-  not_dialed = idle;
-  not_asked = by_asked (is_some (reply_on 2 e)) refl;
-}
-  where
-    by_asked : (b : Bool) → is_some (reply_on 2 e) ≡ b → b ≡ false
-    by_asked true is = let none : Cold ≡ Warm = sym cold ∙ tie.asked is in absurd cc
-    by_asked false is = refl
+cold-alone now (Some p) (Some e) cold idle tie = search (arith, false_from_ne_true)
 
 cold-there : (o : Option Peer) → IsCold o → is_some o ≡ true
 cold-there None cold = elim cold [ ]
@@ -252,12 +204,7 @@ abbrev pub MayRelease : Machine → Addr → Type 0
 MayRelease m addr = (e : Entry) → find (is_used_at addr) m.connections ≡ Some e → OwesNothing e
 
 pub says_done-quiet : (f : Facts) (m : Machine) → IsQuiet m (says_done f m)
-says_done-quiet f m =
-    let sharing_done : Effect = sends_as_initiator f.cid 10 peer_sharing_done m in
-    let first : Effect = if agreed_sharing f.agreed then sharing_done else nothing_more m in
-    quiet_then m first (sends_as_initiator f.cid 8 (written_alive Done))
-    (cond_both (agreed_sharing f.agreed) sharing_done (nothing_more m) (IsQuiet m) (λ sharing. tells-quiet sharing_done.actions m refl) (λ other. tells-quiet [] m refl))
-    (tells-quiet (sends_as_initiator f.cid 8 (written_alive Done) first.machine).actions first.machine refl)
+says_done-quiet f m = search (arith, quiet_then, tells-quiet)
 
 abbrev releasing : Entry → Machine → Effect
 releasing e m = then_do (entry_turns e (record e { facts = released (m.now + m.settings.idle) e.facts }) m)
@@ -269,11 +216,7 @@ unused_at b x unused = by_bool (is_live_at b x.facts) (λ c. (c && x.facts.local
 
 -- whoever is on its way afterwards was so before
 released-down : (until : ℕ) (e : Entry) → is_up_connection (Some (record e { facts = released until e.facts })) ≡ true → is_up_connection (Some e) ≡ true
-released-down until e up = by_used (is_negotiated e.facts) e.facts.local (is_pending e.facts) up
-  where
-    by_used : (a b c : Bool) → ((a && false) || c) ≡ true → ((a && b) || c) ≡ true
-    by_used true b c is = or_right b c is
-    by_used false b c is = is
+released-down until e up = search (arith, or_right)
 
 releasing-carried : (addr : Addr) (m : Machine) (e : Entry) (k : ℕ) → Used m addr e k → MayRelease m addr → Trimmed IsLawful m (releasing e m)
 releasing-carried addr m e k u may =

@@ -25,17 +25,14 @@ turned-ordinary : (a : Addr) (change : Peer → Peer) (m : Machine) → ((p : Pe
     ((p : Peer) → p.big ≡ false → (change p).big ≡ false) → (o : Option Peer) → peer_at a m ≡ o → (b : Addr) →
     IsOrdinaryIn m.peers b → IsOrdinaryIn (turns_at o change m).machine.peers b
 turned-ordinary a change m same keeps None is b h = h
-turned-ordinary a change m same keeps (Some p) is b h =
-    with_peer-ordinary (change p) p m.peers
-    (subst (λ x. peer_in x m.peers ≡ Some p) (sym (same p ∙ found-addr a m.peers p is)) is) (keeps p) b h
+turned-ordinary a change m same keeps (Some p) is b h = search (arith, with_peer-ordinary, found-addr)
 
 -- ---- all local peers
 
 pub turned-classes : (a : Addr) (change : Peer → Peer) (m : Machine) → ((p : Peer) → (change p).addr ≡ p.addr) →
     ((p : Peer) → p.big ≡ false → (change p).big ≡ false) → (p : Peer) → peer_at a m ≡ Some p →
     LocalsAreOrdinary m → LocalsAreOrdinary (turns_at (Some p) change m).machine
-turned-classes a change m same keeps p is h b q found local =
-    turned-ordinary a change m same keeps (Some p) is b (λ x there. h b x there local) q found
+turned-classes a change m same keeps p is h b q found local = search (arith, turned-ordinary)
 
 -- An ordinary peer comes, or a big ledger peer that is not local.
 pub comes-classes : (big : Bool) (addr : Addr) (m : Machine) → (is_local m.groups addr ≡ true → big ≡ false) →
@@ -76,5 +73,4 @@ made-groups (a ∷ addrs) m = grind (arith, made-groups addrs (peer_is_ordinary 
 
 -- once each member was made an ordinary peer, local peers are ordinary
 pub members-classes : (m : Machine) → LocalsAreOrdinary (for_each peer_is_ordinary (members_of m.groups) m).machine
-members-classes m b q found local =
-    all-made (members_of m.groups) m b (subst (λ groups. is_local groups b ≡ true) (made-groups (members_of m.groups) m) local) q found
+members-classes m b q found local = search (arith, all-made, made-groups)

@@ -1,6 +1,6 @@
 -- What is owed on a connection, through each change of it.
 use Rattle.std.proofs.Common.{ℕ, ◌+◌, ◌<◌, ◌≡◌, Bool, true, false, not, ◌==◌, nat_lt, List, [], ◌∷◌, ◌++◌, filter, find, is_some, All, AllPairs, refl, sym, ap, ◌∙◌, subst, arith, ltb-true}
-use Rattle.laws.proofs.Words.{both_ways, false≢true, All-nil, All-head, All-tail, All-cons, All-filter, All-append, All-weaker, filter_passes, AllPairs-cons, AllPairs-filter}
+use Rattle.laws.proofs.Words.{both_ways, false≢true, All-head, All-tail, All-cons, All-filter, All-append, All-weaker, filter_passes, AllPairs-cons, AllPairs-filter}
 use Rattle.laws.specs.Words.{agreed_sharing, Machine, Entry, Owed, with_reply, without_reply, reply_on, owing, paid, is_owed_on}
 use Rattle.laws.specs.Steady.{IsOwing}
 use Rattle.laws.proofs.Finds.{find-none_passes}
@@ -11,8 +11,7 @@ use Rattle.laws.proofs.Cases.{by_bool, by_option}
 
 -- where each fails if each did before, whatever is found was found before
 some-before : (q : Owed → Bool) (xs ys : List Owed) → (All (λ o. q o ≡ false) xs → All (λ o. q o ≡ false) ys) → is_some (find q ys) ≡ true → is_some (find q xs) ≡ true
-some-before q xs ys fails h = by_option (find q xs) (λ o. is_some o ≡ true)
-    (λ none. sym (ap is_some (find-none_passes q ys (fails (find_none q xs none)))) ∙ h) (λ o is. refl)
+some-before q xs ys fails h = search (arith, find-none_passes, find_none)
 
 -- a reply of another kind than the one that comes to be owed was owed before it
 pub with_reply-some : (q : Owed → Bool) (new : Owed) (owed : List Owed) → q new ≡ false →
@@ -31,12 +30,7 @@ paid-some q protocol owed = some-before q owed (without_reply protocol owed) (Al
 -- ---- where nothing is owed
 
 pub nothing-owing : (e : Entry) → e.owed ≡ [] → IsOwing e
-nothing-owing e none = record {
-  protocols = subst (All (λ o. is_owed_on o.protocol ≡ true)) (sym none) (All-nil (λ o. is_owed_on o.protocol ≡ true));
-  rises = subst (AllPairs (λ o q. o.protocol < q.protocol)) (sym none) (λ i j d before inside. absurd (omega (arith, inside)));
-  used = λ unused. none;
-  shares = λ asked. absurd (false≢true (ap (λ owed. is_some (find (λ o. o.protocol == 10) owed)) (sym none) ∙ asked));
-}
+nothing-owing e none = search (arith, false≢true)
 
 pub record OwesNothing (e : Entry) : Type 0 where
   pub on_2 : is_some (reply_on 2 e) ≡ false

@@ -50,8 +50,7 @@ pub steady-pending : (m : Machine) → IsSteady m → PendingAreCold m
 steady-pending m h addr pending = pending-cold m.now (peer_at addr m) (live_entry_at addr m) (live-shaped addr m h.formed) (h.tied addr) pending
 
 pub steady-back_off : (m : Machine) → IsSteady m → UsedAreOutOfBackOff m
-steady-back_off m h addr p found either =
-    used-rested m.now p (live_entry_at addr m) (subst (λ o. TiedBy m.now o (live_entry_at addr m)) found (h.tied addr)) either
+steady-back_off m h addr p found either = search (arith, used-rested)
 
 -- ---- the record
 
@@ -69,12 +68,4 @@ steady-local m h = all-standing (λ e. e.facts.local ≡ true → is_established
     steady-established m h e.facts.addr ∙ (ap is_used_connection here ∙ and_from (is_negotiated e.facts) e.facts.local negotiated local))
 
 pub steady-lawful : (m : Machine) → IsSteady m → IsLawfulRecord m
-steady-lawful m h = assumption (
-  h,
-  steady-hot m h,
-  steady-local m h,
-  steady-established m h,
-  steady-pending m h,
-  steady-back_off m h,
-  waits-ahead m h.sound.deadlines,
-)
+steady-lawful m h = search (steady-hot, steady-local, steady-established, steady-pending, steady-back_off, waits-ahead)

@@ -5,10 +5,16 @@ use Rattle.laws.specs.Words.{AllByRecursion, same_address, Addr, Peer, has_addre
 use Rattle.peer_book.specs.Book.{peer_at}
 use Rattle.laws.specs.Steady.{ArePeersApart, IsFormed}
 use Rattle.laws.proofs.Addresses.{same_address-self, same_address-true}
+use Rattle.laws.proofs.Cases.{by_bool}
+use Rattle.laws.proofs.Each.{weaker-both}
 use Rattle.laws.proofs.Lists.{filter-all}
 
 pub same_turned : (a b : Addr) → same_address a b ≡ false → same_address b a ≡ false
 same_turned a b h = grind (arith, h, same_address-true b a, same_address-self b)
+
+-- of one address, and of all others
+pub by_address : (P : Addr → Type 0) (a : Addr) → P a → ((b : Addr) → same_address b a ≡ false → P b) → (b : Addr) → P b
+by_address P a own others b = by_bool (same_address b a) (λ c. P b) (λ is. subst P (sym (same_address-true b a is)) own) (λ other. others b other)
 
 -- a peer in place of the one with its address
 replaced-addr : (new p : Peer) → (if has_address new.addr p then new else p).addr ≡ p.addr
@@ -17,8 +23,7 @@ replaced-addr new p = grind (arith, same_address-true p.addr new.addr)
 pub with_peer-others : (new : Peer) (addr : Addr) (ps : List Peer) → AllByRecursion (λ q. same_address q.addr addr ≡ false) ps →
     AllByRecursion (λ q. same_address q.addr addr ≡ false) (with_peer new ps)
 with_peer-others new addr [] h = tt
-with_peer-others new addr (p ∷ ps) h =
-    (subst (λ a. same_address a addr ≡ false) (sym (replaced-addr new p)) h.0, with_peer-others new addr ps h.1)
+with_peer-others new addr (p ∷ ps) h = (rw (replaced-addr new p) h.0, with_peer-others new addr ps h.1)
 
 pub with_peer-apart : (new : Peer) (ps : List Peer) → ArePeersApart ps → ArePeersApart (with_peer new ps)
 with_peer-apart new [] h = tt
@@ -35,8 +40,7 @@ put_in-others new addr (p ∷ ps) n h = grind (arith, n, h.0, h.1, put_in-others
 
 pub with_new-apart : (new : Peer) (ps : List Peer) → AllByRecursion (λ q. same_address q.addr new.addr ≡ false) ps → ArePeersApart ps → ArePeersApart (with_new new ps)
 with_new-apart new [] n h = (tt, tt)
-with_new-apart new (p ∷ ps) n h =
-    grind (arith, n, h.0, h.1, with_new-apart new ps n.1 h.1, put_in-others new p.addr ps (same_turned p.addr new.addr n.0) h.0)
+with_new-apart new (p ∷ ps) n h = search (arith, put_in-others, same_turned, with_new-apart new ps n.1 h.1)
 
 -- where none is found, all are others
 pub none_found : (addr : Addr) (ps : List Peer) → is_some (peer_at addr ps) ≡ false → AllByRecursion (λ q. same_address q.addr addr ≡ false) ps
@@ -54,14 +58,9 @@ filter-apart q [] h = tt
 filter-apart q (p ∷ ps) h = grind (arith, filter-all (λ x. same_address x.addr p.addr ≡ false) q ps h.0, filter-apart q ps h.1)
 
 -- each is found under its address
-found_behind : (p : Peer) (ps qs : List Peer) → AllByRecursion (λ q. same_address q.addr p.addr ≡ false) qs →
-    AllByRecursion (λ q. peer_at q.addr ps ≡ Some q) qs → AllByRecursion (λ q. peer_at q.addr (p ∷ ps) ≡ Some q) qs
-found_behind p ps [] others h = tt
-found_behind p ps (q ∷ qs) others h = (rw (same_turned q.addr p.addr others.0) h.0, found_behind p ps qs others.1 h.1)
-
 pub all-found : (ps : List Peer) → ArePeersApart ps → AllByRecursion (λ p. peer_at p.addr ps ≡ Some p) ps
 all-found [] h = tt
-all-found (p ∷ ps) h = (rw (same_address-self p.addr) refl, found_behind p ps ps h.0 (all-found ps h.1))
+all-found (p ∷ ps) h = (rw (same_address-self p.addr) refl, weaker-both ps (λ q other found. rw (same_turned q.addr p.addr other) found) h.0 (all-found ps h.1))
 
 pub record IsBook (own : Addr) (peers : List Peer) : Type 0 where
   pub apart : ArePeersApart peers
@@ -79,10 +78,7 @@ found-other own a (q ∷ ps) p h found = grind (arith, found, h.0, same_address-
 
 -- a peer in place of the one with its address
 pub with_peer-book : (own : Addr) (new : Peer) (ps : List Peer) → IsBook own ps → IsBook own (with_peer new ps)
-with_peer-book own new ps h =
-    let same = length-map ps (λ p. if has_address new.addr p then new else p) in
-    let room : length (with_peer new ps) ≤ most_peers = omega (arith, same, h.room) in
-    assumption (with_peer-apart new ps h.apart, with_peer-others new own ps h.others)
+with_peer-book own new ps h = search (arith, length-map, with_peer-apart, with_peer-others)
 
 -- a new one
 with_new-longer : (new : Peer) (ps : List Peer) → length (with_new new ps) ≡ length ps + 1
@@ -98,7 +94,4 @@ entered-book own new ps other h = entered-cases new ps (IsBook own) h (λ none r
 
 -- some go
 pub filter-book : (own : Addr) (q : Peer → Bool) (ps : List Peer) → IsBook own ps → IsBook own (filter q ps)
-filter-book own q ps h =
-    let fewer = filter-within q ps in
-    let room : length (filter q ps) ≤ most_peers = omega (arith, fewer, h.room) in
-    assumption (filter-apart q ps h.apart, filter-all (λ x. same_address x.addr own ≡ false) q ps h.others)
+filter-book own q ps h = search (arith, filter-within, filter-apart, filter-all)

@@ -1,10 +1,11 @@
 -- Picks are of the candidates, and no address is picked twice.
 use Rattle.std.proofs.Common.{ℕ, suc, ◌≡◌, Bool, true, false, cond, List, [], ◌∷◌, map, filter, Some, refl, arith}
-use Rattle.laws.specs.Words.{AllByRecursion, best_of, address_below, ip_below, same_address, Ip, V4, V6, Addr, Peer, least_by, pair_below, score_of, ranked_score_of, scores_below, rates_below, Rated, rated_of, picks_of, addresses_of}
+use Rattle.laws.specs.Words.{AllByRecursion, best_of, address_below, same_address, Addr, Peer, least_by, pair_below, score_of, ranked_score_of, scores_below, rates_below, Rated, rated_of, picks_of, addresses_of}
 use Rattle.peer_book.specs.Book.{peer_at}
 use Rattle.laws.specs.Steady.{ArePeersApart, AreApart}
 use Rattle.laws.proofs.Addresses.{same_address-true}
-use Rattle.laws.proofs.Lists.{all-weaker, filter-all, all-both, all-map, filter-passing}
+use Rattle.laws.proofs.Each.{weaker, weaker-both}
+use Rattle.laws.proofs.Lists.{filter-all, all-map, filter-passing}
 use Rattle.laws.proofs.PeersApart.{all-found}
 
 -- ---- the least of several things
@@ -37,12 +38,8 @@ least-rises below k xs = tt
 
 -- ---- no address is below itself
 
-ip_below-self : (ip : Ip) → ip_below ip ip ≡ false
-ip_below-self (V4 n) = grind arith
-ip_below-self (V6 n) = grind arith
-
 address_below-self : (a : Addr) → address_below a a ≡ false
-address_below-self a = grind (arith, ip_below-self a.ip)
+address_below-self a = grind arith
 
 pair_below-self : (n : ℕ) (a : Addr) → pair_below n a n a ≡ false
 pair_below-self n a = grind (arith, address_below-self a)
@@ -52,10 +49,8 @@ pair_below-self n a = grind (arith, address_below-self a)
 scores-apart : (word : ℕ) (addrs : List Addr) → RisesBy (scores_below word) addrs → AreApart addrs
 unfolding RisesBy
 scores-apart word [] h = tt
-scores-apart word (a ∷ addrs) h = (
-  all-weaker (λ b. scores_below word a b ≡ true) (λ b. same_address b a ≡ false) (λ b below. grind (arith, below, same_address-true b a, pair_below-self (score_of word a) a)) addrs h.0,
-  scores-apart word addrs h.1,
-)
+scores-apart word (a ∷ addrs) h =
+    (weaker addrs (λ b below. grind (arith, below, same_address-true b a, pair_below-self (score_of word a) a)) h.0, scores-apart word addrs h.1)
 
 -- ---- picks of big ledger peers
 
@@ -66,18 +61,15 @@ record FoundAs (peers : List Peer) (r : Rated) : Type 0 where
   is : r ≡ rated_of peer
 
 all_rated : (ps : List Peer) → ArePeersApart ps → AllByRecursion (FoundAs ps) (map rated_of ps)
-all_rated ps h =
-    all-map (FoundAs ps) rated_of ps
-    (all-weaker (λ p. peer_at p.addr ps ≡ Some p) (λ p. FoundAs ps (rated_of p)) (λ p found. record { peer = p; found = found; is = refl }) ps (all-found ps h))
+all_rated ps h = all-map (FoundAs ps) rated_of ps (weaker ps (λ p found. record { peer = p; found = found; is = refl }) (all-found ps h))
 
 rates-apart : (word : ℕ) (peers : List Peer) (rs : List Rated) → RisesBy (rates_below word) rs → AllByRecursion (FoundAs peers) rs →
     AreApart (map (λ r. r.addr) rs)
 unfolding RisesBy
 rates-apart word peers [] h f = tt
 rates-apart word peers (r ∷ rs) h f = (
-  all-map (λ b. same_address b r.addr ≡ false) (λ s. s.addr) rs
-      (all-both (λ s. rates_below word r s ≡ true) (FoundAs peers) (λ s. same_address s.addr r.addr ≡ false) (λ s below found.
-      grind (arith, below, f.0.found, f.0.is, found.found, found.is, same_address-true s.addr r.addr, pair_below-self (ranked_score_of word r.failures r.addr) r.addr)) rs h.0 f.1),
+  all-map (λ b. same_address b r.addr ≡ false) (λ s. s.addr) rs (weaker-both rs (λ s below found.
+      grind (arith, below, f.0.found, f.0.is, found.found, found.is, same_address-true s.addr r.addr, pair_below-self (ranked_score_of word r.failures r.addr) r.addr)) h.0 f.1),
   rates-apart word peers rs h.1 f.1,
 )
 
@@ -93,8 +85,5 @@ picks-apart true word number candidates h =
 
 pub picks-all : (P : Addr → Type 0) (big : Bool) (word number : ℕ) (candidates : List Peer) → AllByRecursion (λ p. P p.addr) candidates →
     AllByRecursion P (picks_of big word number candidates)
-picks-all P false word number candidates h =
-    least-all P (scores_below word) number (addresses_of candidates) (all-map P (λ p. p.addr) candidates h)
-picks-all P true word number candidates h =
-    all-map P (λ r. r.addr) (least_by (rates_below word) number (map rated_of candidates))
-    (least-all (λ r. P r.addr) (rates_below word) number (map rated_of candidates) (all-map (λ r. P r.addr) rated_of candidates h))
+picks-all P false word number candidates h = search (arith, least-all, all-map)
+picks-all P true word number candidates h = search (arith, all-map, least-all)

@@ -1,14 +1,11 @@
 -- What sound settings say.
-use Rattle.std.proofs.Common.{ℕ, ◌≤◌, ◌≡◌, Bool, true, cond, List, [], ◌∷◌, Some, None, All, nat_le, arith, leb-true}
-use Rattle.laws.proofs.Words.{and_parts, All-nil, All-cons}
+use Rattle.std.proofs.Common.{ℕ, ◌≤◌, ◌≡◌, Bool, true, List, [], ◌∷◌, None, All, nat_le, arith, leb-true}
+use Rattle.laws.proofs.Words.{and_parts, All-nil}
 use Rattle.laws.specs.Words.{Settings, Field, Version, AreSound, first_failing, settings_tests, is_interval}
-use Rattle.laws.proofs.Cases.{by_bool}
 
 pub first_failing-none : (tests : List (Field × Bool)) → first_failing tests ≡ None → All (λ test. test.1 ≡ true) tests
 first_failing-none [] e = All-nil (λ test. test.1 ≡ true)
-first_failing-none (test ∷ tests) e = by_bool test.1
-    (λ b. (first_failing tests ≡ None → All (λ t. t.1 ≡ true) tests) → cond b (first_failing tests) (Some test.0) ≡ None → All (λ t. t.1 ≡ true) (test ∷ tests))
-    (λ here later e. All-cons (λ t. t.1 ≡ true) test tests here (later e)) (λ here later e. absurd cc) (first_failing-none tests) e
+first_failing-none (test ∷ tests) e = search (arith, first_failing-none tests)
 
 pub interval-positive : (n : ℕ) → is_interval n ≡ true → 1 ≤ n
 interval-positive n h = leb-true 1 n (and_parts (nat_le 1 n) (nat_le n 86400000) h).0

@@ -1,19 +1,16 @@
 -- A move at one address raises what is counted by one at most.
-use Rattle.std.proofs.Common.{ℕ, zero, suc, ◌+◌, ◌%◌, ◌≤◌, ◌≡◌, Bool, true, false, cond, ◌&&◌, ◌||◌, if◌then◌else◌, set, List, [], ◌∷◌, ◌++◌, find, count_by, Option, Some, None, refl, sym, ap, ◌∙◌, subst, arith}
-use Rattle.laws.proofs.Words.{both_ways, and_parts, sum_by-cons}
-use Rattle.laws.specs.Words.{list_any, AllByRecursion, option_map, same_address, Addr, Group, Peer, Warm, dialing, acquired, is_live, is_live_at, is_acquirable, has_address, is_of, with_peer, is_listed, Machine, Entry, fresh_entry, live_entry_at, owing, turns_at, peer_at, with_entry, acquire, dial, promoted_at, promote, is_used_at, activates, activate, on_entry, peer_changes, Effect, on_used}
+use Rattle.std.proofs.Common.{ℕ, zero, suc, ◌+◌, ◌≤◌, ◌≡◌, Bool, true, false, cond, ◌&&◌, if◌then◌else◌, set, List, [], ◌∷◌, ◌++◌, find, count_by, Option, Some, refl, sym, ap, ◌∙◌, subst, arith}
+use Rattle.laws.proofs.Words.{both_ways, cond_both, and_parts}
+use Rattle.laws.specs.Words.{list_any, AllByRecursion, option_map, same_address, Addr, Group, Peer, is_live, is_live_at, is_acquirable, has_address, is_of, with_peer, is_listed, Machine, Entry, live_entry_at, owing, turns_at, peer_at, with_entry, acquire, dial, promoted_at, promote, is_used_at, activates, activate, on_entry, peer_changes, Effect, on_used}
 use Rattle.peer_book.specs.Book.{peer_at as peer_in}
 use Rattle.laws.specs.AtMoves.{some_connection, number_with, members_with}
 use Rattle.laws.specs.Steady.{ArePeersApart, IsOrdered}
 use Rattle.laws.proofs.Addresses.{same_address-true}
+use Rattle.laws.proofs.Each.{weaker, count-cons}
 use Rattle.laws.proofs.Entries.{TurnsInto, turned-connections}
-use Rattle.laws.proofs.Lists.{all-true, all-weaker, StandsAt, stands_before, FoundIn, find_some}
+use Rattle.laws.proofs.Lists.{all-true, StandsAt, stands_before, FoundIn, find_some}
 use Rattle.laws.proofs.PeersApart.{same_turned}
 use Rattle.laws.proofs.Cases.{by_bool, by_option}
-
-none_unlisted : (a b c : Bool) → b ≡ false → (a && (b && c)) ≡ false
-none_unlisted true true c h = absurd cc
-none_unlisted a b c h = refl
 
 -- ---- books that differ at one address
 
@@ -39,41 +36,25 @@ all_same addr (p ∷ ps) = (same_but-self addr p, all_same addr ps)
 -- one takes the place of the peer with its address
 with_peer-same : (new : Peer) (ps : List Peer) → AllByRecursion (λ q. same_address q.addr new.addr ≡ false) ps → AreSameBut new.addr ps (with_peer new ps)
 with_peer-same new [] others = tt
-with_peer-same new (p ∷ ps) others =
-    (subst (λ b. IsSameBut new.addr p (if b then new else p)) (sym others.0) (same_but-self new.addr p), with_peer-same new ps others.1)
+with_peer-same new (p ∷ ps) others = search (arith, same_but-self, with_peer-same new ps others.1)
 
 pub with_peer-same_but : (new p : Peer) (ps : List Peer) → ArePeersApart ps → peer_in new.addr ps ≡ Some p → new.big ≡ p.big →
     AreSameBut new.addr ps (with_peer new ps)
 with_peer-same_but new p [] apart found class = tt
 with_peer-same_but new p (q ∷ ps) apart found class = by_bool (has_address new.addr q)
-    (λ b. cond b (Some q) (peer_in new.addr ps) ≡ Some p →
-    (peer_in new.addr ps ≡ Some p → new.big ≡ p.big → AreSameBut new.addr ps (with_peer new ps)) →
+    (λ b. cond b (Some q) (peer_in new.addr ps) ≡ Some p → (peer_in new.addr ps ≡ Some p → AreSameBut new.addr ps (with_peer new ps)) →
     IsSameBut new.addr q (if b then new else q) × AreSameBut new.addr ps (with_peer new ps))
     (λ here found later.
-    let same : q ≡ p = cc in
     let addr : q.addr ≡ new.addr = same_address-true q.addr new.addr here in (
-      record {
-        same_addr = sym addr;
-        same_class = class ∙ ap (λ x. x.big) (sym same);
-        elsewhere = λ other. let never : true ≡ false = sym here ∙ other in absurd cc;
-      },
+      record { same_addr = sym addr; same_class = grind (arith, found, class); elsewhere = λ other. absurd (both_ways (has_address new.addr q) other here) },
       with_peer-same new ps (subst (λ a. AllByRecursion (λ x. same_address x.addr a ≡ false) ps) addr apart.0),
     ))
-    (λ other found later. (same_but-self new.addr q, later found class)) found (with_peer-same_but new p ps apart.1)
+    (λ other found later. (same_but-self new.addr q, later found)) found (λ found. with_peer-same_but new p ps apart.1 found class)
 
 -- ---- the class of an address
 
 abbrev pub class_at : Addr → List Peer → Option Bool
 class_at addr ps = option_map (λ p. p.big) (peer_in addr ps)
-
-pub same_but-class : (addr b : Addr) (ps qs : List Peer) → AreSameBut addr ps qs → class_at b qs ≡ class_at b ps
-same_but-class addr b [] [] h = refl
-same_but-class addr b (p ∷ ps) (q ∷ qs) h =
-    ap (λ a. option_map (λ x. x.big) (cond (same_address a b) (Some q) (peer_in b qs))) h.0.same_addr
-    ∙ by_bool (same_address p.addr b)
-    (λ c. class_at b qs ≡ class_at b ps → option_map (λ x. x.big) (cond c (Some q) (peer_in b qs)) ≡ option_map (λ x. x.big) (cond c (Some p) (peer_in b ps)))
-    (λ is rest. ap Some h.0.same_class) (λ is rest. rest) (same_but-class addr b ps qs h.1)
-same_but-class addr b ps qs h = elim h [ ]
 
 -- ---- what is counted
 
@@ -85,15 +66,7 @@ one-most false = omega arith
 pub counted-none : (addr : Addr) (s t : Peer → Bool) (ps qs : List Peer) → AreSameBut addr ps qs → ((p : Peer) → same_address p.addr addr ≡ false → t p ≡ s p) →
     AllByRecursion (λ p. (q : Peer) → q.addr ≡ p.addr → same_address p.addr addr ≡ true → t q ≡ false) ps → count_by t qs ≤ count_by s ps
 counted-none addr s t [] [] h other fails = omega arith
-counted-none addr s t (p ∷ ps) (q ∷ qs) h other fails =
-    let here : cond {A = ℕ} (t q) 1 0 ≤ cond {A = ℕ} (s p) 1 0 = by_bool (same_address p.addr addr)
-    (λ b. cond {A = ℕ} (t q) 1 0 ≤ cond {A = ℕ} (s p) 1 0)
-    (λ at. subst (λ b. cond {A = ℕ} b 1 0 ≤ cond {A = ℕ} (s p) 1 0) (sym (fails.0 q h.0.same_addr at)) (omega arith))
-    (λ elsewhere. subst (λ b. cond {A = ℕ} b 1 0 ≤ cond {A = ℕ} (s p) 1 0) (sym (ap t (h.0.elsewhere elsewhere) ∙ other p elsewhere)) (omega arith)) in
-    let rest = counted-none addr s t ps qs h.1 other fails.1 in
-    let before = sum_by-cons (λ x. cond {A = ℕ} (s x) 1 0) p ps in
-    let after = sum_by-cons (λ x. cond {A = ℕ} (t x) 1 0) q qs in
-    omega (arith, here, rest, before, after)
+counted-none addr s t (p ∷ ps) (q ∷ qs) h other fails = grind (arith, h.0.elsewhere, other p, fails.0 q h.0.same_addr, counted-none addr s t ps qs h.1 other fails.1, count-cons s p ps, count-cons t q qs)
 counted-none addr s t ps qs h other fails = elim h [ ]
 
 -- at most one more, since no two peers have one address
@@ -101,19 +74,9 @@ pub counted-one : (addr : Addr) (s t : Peer → Bool) (ps qs : List Peer) → Ar
     ((p : Peer) → same_address p.addr addr ≡ false → t p ≡ s p) → count_by t qs ≤ count_by s ps + 1
 counted-one addr s t [] [] apart h other = omega arith
 counted-one addr s t (p ∷ ps) (q ∷ qs) apart h other =
-    let before = sum_by-cons (λ x. cond {A = ℕ} (s x) 1 0) p ps in
-    let after = sum_by-cons (λ x. cond {A = ℕ} (t x) 1 0) q qs in
-    by_bool (same_address p.addr addr)
-    (λ b. count_by s (p ∷ ps) ≡ cond {A = ℕ} (s p) 1 0 + count_by s ps →
-    count_by t (q ∷ qs) ≡ cond {A = ℕ} (t q) 1 0 + count_by t qs → count_by t qs ≤ count_by s ps + 1 → count_by t (q ∷ qs) ≤ count_by s (p ∷ ps) + 1)
-    (λ at before after later.
-    let rest = counted-none addr s t ps qs h.1 other (all-weaker (λ x. same_address x.addr p.addr ≡ false)
-    (λ x. (y : Peer) → y.addr ≡ x.addr → same_address x.addr addr ≡ true → t y ≡ false)
-    (λ x away y same there. absurd (both_ways (same_address x.addr addr) (subst (λ a. same_address x.addr a ≡ false) (same_address-true p.addr addr at) away) there)) ps apart.0) in
-    omega (arith, one-most (t q), rest, before, after))
-    (λ elsewhere before after later.
-    let same : cond {A = ℕ} (t q) 1 0 ≡ cond {A = ℕ} (s p) 1 0 = ap (λ b. cond {A = ℕ} b 1 0) (ap t (h.0.elsewhere elsewhere) ∙ other p elsewhere) in
-    omega (arith, same, later, before, after)) before after (counted-one addr s t ps qs apart.1 h.1 other)
+    let none : same_address p.addr addr ≡ true → count_by t qs ≤ count_by s ps = λ at. counted-none addr s t ps qs h.1 other
+    (weaker ps (λ x away y same there. absurd (both_ways (same_address x.addr addr) (subst (λ a. same_address x.addr a ≡ false) (same_address-true p.addr addr at) away) there)) apart.0) in
+    grind (arith, none, h.0.elsewhere, other p, counted-one addr s t ps qs apart.1 h.1 other, count-cons s p ps, count-cons t q qs)
 counted-one addr s t ps qs apart h other = elim h [ ]
 
 -- ---- records that differ at one address
@@ -134,50 +97,35 @@ module _ (test : Machine → Peer → Bool) (same : IsLocalTest test) where
       counted-one addr (λ p. is_of big p && test m p) (λ p. is_of big p && test n p) m.peers n.peers apart h.peers
       (λ p other. ap (λ b. is_of big p && b) (same addr m n h p other))
 
-  members-same : (group : Group) (addr : Addr) (m n : Machine) → ChangesAt addr m n → (p : Peer) → same_address p.addr addr ≡ false →
-      (is_of false p && (is_listed p.addr group.members && test n p)) ≡ (is_of false p && (is_listed p.addr group.members && test m p))
-  members-same group addr m n h p other = ap (λ b. is_of false p && (is_listed p.addr group.members && b)) (same addr m n h p other)
-
-  -- one more member at most
+  -- and one more member, or none where the address is no member's
   pub members-one : (group : Group) (addr : Addr) (m n : Machine) → ArePeersApart m.peers → ChangesAt addr m n →
       members_with test group n ≤ members_with test group m + 1
   members-one group addr m n apart h =
-      counted-one addr (λ p. is_of false p && (is_listed p.addr group.members && test m p))
-      (λ p. is_of false p && (is_listed p.addr group.members && test n p)) m.peers n.peers apart h.peers
-      (members-same group addr m n h)
+      counted-one addr (λ p. is_of false p && (is_listed p.addr group.members && test m p)) (λ p. is_of false p && (is_listed p.addr group.members && test n p))
+      m.peers n.peers apart h.peers (λ p other. ap (λ b. is_of false p && (is_listed p.addr group.members && b)) (same addr m n h p other))
 
-  -- and none where the address is no member's
   pub members-none : (group : Group) (addr : Addr) (m n : Machine) → is_listed addr group.members ≡ false → ChangesAt addr m n →
       members_with test group n ≤ members_with test group m
   members-none group addr m n unlisted h =
-      counted-none addr (λ p. is_of false p && (is_listed p.addr group.members && test m p))
-      (λ p. is_of false p && (is_listed p.addr group.members && test n p)) m.peers n.peers h.peers
-      (members-same group addr m n h)
-      (all-true (λ p. (q : Peer) → q.addr ≡ p.addr → same_address p.addr addr ≡ true → (is_of false q && (is_listed q.addr group.members && test n q)) ≡ false)
-      (λ p q same at. none_unlisted (is_of false q) (is_listed q.addr group.members) (test n q)
-      (subst (λ a. is_listed a group.members ≡ false) (sym (same ∙ same_address-true p.addr addr at)) unlisted)) m.peers)
+      counted-none addr (λ p. is_of false p && (is_listed p.addr group.members && test m p)) (λ p. is_of false p && (is_listed p.addr group.members && test n p))
+      m.peers n.peers h.peers (λ p other. ap (λ b. is_of false p && (is_listed p.addr group.members && b)) (same addr m n h p other))
+      (all-true _ (λ p q same at. grind (arith, unlisted, same, same_address-true p.addr addr at)) m.peers)
 
 -- ---- what the connections of other addresses are
 
 abbrev passes_at : (Entry → Bool) → Addr → Entry → Bool
 passes_at test b e = same_address e.facts.addr b && test e
 
-other-fails : (test : Entry → Bool) (e : Entry) (b : Addr) → same_address e.facts.addr b ≡ false → passes_at test b e ≡ false
-other-fails test e b other = ap (λ c. c && test e) other
-
 pushed-same : (test : Entry → Bool) (b : Addr) (new : Entry) (es : List Entry) → same_address new.facts.addr b ≡ false →
     list_any (passes_at test b) (es ++ new ∷ []) ≡ list_any (passes_at test b) es
-pushed-same test b new [] other = ap (λ c. c || false) (other-fails test new b other)
-pushed-same test b new (e ∷ es) other = ap (λ c. passes_at test b e || c) (pushed-same test b new es other)
+pushed-same test b new [] other = grind (arith, other)
+pushed-same test b new (e ∷ es) other = grind (arith, pushed-same test b new es other)
 
 set-same : (test : Entry → Bool) (b : Addr) (new e : Entry) (es : List Entry) (k : ℕ) → StandsAt es k e → same_address e.facts.addr b ≡ false →
     same_address new.facts.addr b ≡ false → list_any (passes_at test b) (set es k new) ≡ list_any (passes_at test b) es
 set-same test b new e [] k s old_other new_other = absurd (omega (arith, s.inside))
-set-same test b new e (x ∷ es) zero s old_other new_other =
-    let here : same_address x.facts.addr b ≡ false = ap (λ y. same_address y.facts.addr b) s.is ∙ old_other in
-    ap (λ c. c || list_any (passes_at test b) es) (other-fails test new b new_other ∙ sym (other-fails test x b here))
-set-same test b new e (x ∷ es) (suc k) s old_other new_other =
-    ap (λ c. passes_at test b x || c) (set-same test b new e es k (stands_before x e es k s) old_other new_other)
+set-same test b new e (x ∷ es) zero s old_other new_other = grind (arith, s.is, old_other, new_other)
+set-same test b new e (x ∷ es) (suc k) s old_other new_other = grind (arith, set-same test b new e es k (stands_before x e es k s) old_other new_other)
 
 pub turned-same : (m : Machine) (e new : Entry) (k : ℕ) → IsOrdered m → StandsAt m.connections k e → TurnsInto e new → (test : Entry → Bool) (b : Addr) →
     same_address b e.facts.addr ≡ false → some_connection test b (with_entry new m) ≡ some_connection test b m
@@ -210,28 +158,19 @@ nothing-changes a m = record { peers = all_same a m.peers; connections = λ test
 -- ---- a promotion
 
 dial-changes : (addr : Addr) (m : Machine) → ChangesAt addr m (dial addr m).machine
-dial-changes addr m = record {
-  peers = all_same addr m.peers;
-  connections = λ test b other. pushed-same test b (fresh_entry (dialing m.next_id addr)) m.connections (same_turned b addr other);
-}
+dial-changes addr m = search (arith, all_same, pushed-same, same_turned)
 
 acquire-changes : (m : Machine) (e : Entry) (k : ℕ) → IsOrdered m → StandsAt m.connections k e → ChangesAt e.facts.addr m (acquire e m).machine
-acquire-changes m e k h s =
-    let new : Entry = owing 8 (e.facts.cid.0 % 65536) m (record e { facts = acquired e.facts }) in
-    changed-changes e.facts.addr (λ p. record p { temp = Warm; failures = 0 }) m (with_entry new m)
-    (turned-changes m e new k h s (record { same_id = refl; same_addr = refl; live = λ l. l })) refl h.formed.peers (λ p. refl) (λ p. refl)
+acquire-changes m e k h s = search (arith, changed-changes, turned-changes)
 
 pub promote-changes : (addr : Addr) (m : Machine) → IsOrdered m → ChangesAt addr m (promote addr m).machine
-promote-changes addr m h = by_live (live_entry_at addr m) refl
-  where
-    by_live : (o : Option Entry) → live_entry_at addr m ≡ o → ChangesAt addr m (promoted_at o addr m).machine
-    by_live None is = dial-changes addr m
-    by_live (Some e) is =
-        let at : FoundIn (λ x. is_live_at addr x.facts) m.connections e = find_some (λ x. is_live_at addr x.facts) m.connections e is in
-        let here : e.facts.addr ≡ addr = same_address-true e.facts.addr addr (and_parts (same_address e.facts.addr addr) (is_live e.facts) at.passes).0 in
-        by_bool (is_acquirable e.facts)
-        (λ b. ChangesAt addr m (acquire e m).machine → ChangesAt addr m (if b then acquire e m else dial addr m).machine)
-        (λ is acquired. acquired) (λ is acquired. dial-changes addr m) (subst (λ a. ChangesAt a m (acquire e m).machine) here (acquire-changes m e at.place h at.stands))
+promote-changes addr m h = by_option (live_entry_at addr m) (λ o. ChangesAt addr m (promoted_at o addr m).machine)
+    (λ is. dial-changes addr m)
+    (λ e is.
+    let at : FoundIn (λ x. is_live_at addr x.facts) m.connections e = find_some (λ x. is_live_at addr x.facts) m.connections e is in
+    let here : e.facts.addr ≡ addr = same_address-true e.facts.addr addr (and_parts (same_address e.facts.addr addr) (is_live e.facts) at.passes).0 in
+    cond_both (is_acquirable e.facts) (acquire e m) (dial addr m) (λ effect. ChangesAt addr m effect.machine)
+    (λ free. subst (λ a. ChangesAt a m (acquire e m).machine) here (acquire-changes m e at.place h at.stands)) (λ other. dial-changes addr m))
 
 -- ---- an activation
 

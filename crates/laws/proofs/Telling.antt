@@ -5,7 +5,7 @@ use Rattle.laws.specs.Words.{Action, Turnaway, Send, Pause, AskRoots, CloseCause
 use Rattle.peer_book.specs.Book.{peer_at as peer_in}
 use Rattle.laws.specs.Stages.{stage_of_phase, stage_of, stage_at, stage_ended, causes_by, causes_in, IsOneEnd}
 use Rattle.laws.specs.Telling.{KeepsAddress, GoesOn, IsTold}
-use Rattle.laws.specs.InActions.{End, Given, closed_by, closes_in, ended_by, ends_in, dialed_by, dials_in, promoted_by_dial, dial_promotions_in, given_by, given_in, CountUp, HasAddress, AreAt, LeadTo, temp_of, temp_at, notes_by, notes_in, noted, is_change, state_at, names_by, names_in, is_other_name, same_state, state_of}
+use Rattle.laws.specs.InActions.{End, Given, closes_in, ended_by, ends_in, dials_in, promoted_by_dial, dial_promotions_in, given_in, CountUp, HasAddress, AreAt, LeadTo, temp_of, temp_at, notes_in, noted, is_change, names_in, is_other_name, same_state, state_of}
 
 -- ---- one after the other
 
@@ -33,33 +33,29 @@ some_stage Dialing = omega arith
 some_stage other = omega arith
 
 keeps_then : (o p q : Option Entry) (a b c : Bool) → stage_of o a ≤ stage_of p b → stage_of p b ≤ stage_of q c → KeepsAddress o p → KeepsAddress p q → KeepsAddress o q
-keeps_then None p q a b c early late one two = tt
-keeps_then (Some e) p None a b c early late one two = tt
-keeps_then (Some e) None (Some g) a true c early late one two = absurd (let most = open_stage g.facts.phase in omega (arith, late, most))
-keeps_then (Some e) None (Some g) a false c early late one two = absurd (let some = some_stage e.facts.phase in omega (arith, early, some))
+keeps_then (Some e) None (Some g) a b c early late one two = absurd (grind (arith, early, late, open_stage g.facts.phase, some_stage e.facts.phase))
 keeps_then (Some e) (Some f) (Some g) a b c early late one two = two ∙ one
+keeps_then None p q a b c early late one two = tt
+keeps_then o p None a b c early late one two = tt
 
 pub keeps_itself : (o : Option Entry) → KeepsAddress o o
 keeps_itself None = tt
 keeps_itself (Some e) = refl
 
 still_at : (addr : Addr) (o p : Option Entry) (b : Bool) → stage_of o true ≤ stage_of p b → KeepsAddress o p → HasAddress addr o → HasAddress addr p
-still_at addr o None b late keeps has = tt
-still_at addr None (Some f) b late keeps has = absurd (let most = open_stage f.facts.phase in omega (arith, late, most))
+still_at addr None (Some f) b late keeps has = absurd (grind (arith, late, open_stage f.facts.phase))
 still_at addr (Some e) (Some f) b late keeps has = keeps ∙ has
+still_at addr o None b late keeps has = tt
 
 -- those that came in the first part are where they were told in the second one, if they still are
 all_still_at : (next : ℕ) (gs : List Given) (m n : Machine) → CountUp next gs m.next_id → ((cid : ℕ) → stage_at cid m ≤ stage_at cid n) →
     ((cid : ℕ) → KeepsAddress (entry_at cid m) (entry_at cid n)) → AreAt gs m → AreAt gs n
 all_still_at next [] m n counts forward keeps h = tt
-all_still_at next (g ∷ gs) m n counts forward keeps h = (
-  still_at g.addr (entry_at g.cid m) (entry_at g.cid n) (nat_lt g.cid n.next_id)
-      (subst (λ b. stage_of (entry_at g.cid m) b ≤ stage_at g.cid n) is_given (forward g.cid)) (keeps g.cid) h.0,
-  all_still_at (next + 1) gs m n counts.1 forward keeps h.1,
-)
-  where
-    is_given : nat_lt g.cid m.next_id ≡ true
-    is_given = let most = counted_to (next + 1) m.next_id gs counts.1 in let here = counts.0 in grind (arith, most, here)
+all_still_at next (g ∷ gs) m n counts forward keeps h =
+    let given : nat_lt g.cid m.next_id ≡ true = grind (arith, counted_to (next + 1) m.next_id gs counts.1, counts.0) in (
+      still_at g.addr (entry_at g.cid m) (entry_at g.cid n) (nat_lt g.cid n.next_id) (rw given at (forward g.cid)) (keeps g.cid) h.0,
+      all_still_at (next + 1) gs m n counts.1 forward keeps h.1,
+    )
 
 all_at : (xs ys : List Given) (m : Machine) → AreAt xs m → AreAt ys m → AreAt (xs ++ ys) m
 all_at [] ys m one two = two
@@ -67,8 +63,7 @@ all_at (x ∷ xs) ys m one two = (one.0, all_at xs ys m one.1 two)
 
 both_joined : {A B C : Type 0} (f : A → List C) (g : B → List C) (xs ys : List A) (ms ns : List B) → flat_map f xs ≡ flat_map g ms → flat_map f ys ≡ flat_map g ns →
     flat_map f (xs ++ ys) ≡ flat_map g (ms ++ ns)
-both_joined f g xs ys ms ns one two =
-    flat_map-append f xs ys ∙ (ap (λ l. l ++ flat_map f ys) one ∙ (ap (λ l. flat_map g ms ++ l) two ∙ sym (flat_map-append g ms ns)))
+both_joined f g xs ys ms ns one two = search (arith, flat_map-append)
 
 abbrev ends_of_move : Move → List End
 ends_of_move move = ended_by move.happened
@@ -82,53 +77,18 @@ ended-over other = omega arith
 
 one_end_on : (cs ds : List CloseCause) (a b c : ℕ) → a ≤ b → b ≤ c → IsOneEnd cs a b → IsOneEnd ds b c → IsOneEnd (cs ++ ds) a c
 one_end_on [] [] a b c early late one two = tt
-one_end_on [] (d ∷ []) a b c early late one two = (
-  omega (arith, early, two.0),
-  two.1,
-  λ open_. two.2 (let start = two.0 in omega (arith, early, open_, start)),
-)
-one_end_on [] (d ∷ e ∷ ds) a b c early late one two = elim two [ ]
+one_end_on [] (d ∷ []) a b c early late one two = (omega (arith, early, two.0), two.1, λ open_. two.2 (let start = two.0 in omega (arith, early, open_, start)))
 one_end_on (x ∷ []) [] a b c early late one two = (one.0, (let over = one.1 in omega (arith, over, late)), one.2)
 one_end_on (x ∷ []) (d ∷ []) a b c early late one two = absurd (let over = one.1 in let start = two.0 in let late = ended-over x in omega (arith, over, start, late))
-one_end_on (x ∷ []) (d ∷ e ∷ ds) a b c early late one two = elim two [ ]
 one_end_on (x ∷ y ∷ cs) ds a b c early late one two = elim one [ ]
+one_end_on cs (d ∷ e ∷ ds) a b c early late one two = elim two [ ]
 
 pub goes_on_then : (cid : ℕ) (m : Machine) (first : Effect) (next : Machine → Effect) → GoesOn cid m first → GoesOn cid first.machine (next first.machine) →
     GoesOn cid m (then_do first next)
-goes_on_then cid m first next one two =
-    let second : Effect = next first.machine in
-    record {
-      names = subst (λ names. LeadTo is_other_name same_state (state_at cid m) names (state_at cid second.machine))
-          (sym (flat_map-append (names_by cid) first.actions second.actions))
-          (leads_on is_other_name same_state (state_at cid m) (state_at cid first.machine) (state_at cid second.machine) (names_in cid first.actions)
-          (names_in cid second.actions) one.names two.names);
-      address = keeps_then (entry_at cid m) (entry_at cid first.machine) (entry_at cid second.machine) (nat_lt cid m.next_id) (nat_lt cid first.machine.next_id)
-          (nat_lt cid second.machine.next_id) one.forward two.forward one.address two.address;
-      forward = omega (arith, one.forward, two.forward);
-      ends = subst (λ cs. IsOneEnd cs (stage_at cid m) (stage_at cid second.machine)) (sym (causes-append cid first.moves second.moves))
-          (one_end_on (causes_in cid first.moves) (causes_in cid second.moves) (stage_at cid m) (stage_at cid first.machine) (stage_at cid second.machine)
-          one.forward two.forward one.ends two.ends);
-    }
+goes_on_then cid m first next one two = search (arith, flat_map-append, leads_on, keeps_then, causes-append, one_end_on)
 
 pub told_then : (m : Machine) (first : Effect) (next : Machine → Effect) → IsTold m first → IsTold first.machine (next first.machine) → IsTold m (then_do first next)
-told_then m first next one two =
-    let second : Effect = next first.machine in
-    record {
-      closes = both_joined closed_by ends_of_move first.actions second.actions first.moves second.moves one.closes two.closes;
-      dials = both_joined dialed_by (λ move. promoted_by_dial move.happened move.before.next_id move.after.next_id) first.actions second.actions first.moves
-          second.moves one.dials two.dials;
-      given = subst (λ ns. CountUp m.next_id ns second.machine.next_id) (sym (flat_map-append given_by first.actions second.actions))
-          (counts_on m.next_id first.machine.next_id second.machine.next_id (given_in first.actions) (given_in second.actions) one.given two.given);
-      addresses = subst (λ gs. AreAt gs second.machine) (sym (flat_map-append given_by first.actions second.actions))
-          (all_at (given_in first.actions) (given_in second.actions) second.machine
-          (all_still_at m.next_id (given_in first.actions) first.machine second.machine one.given (λ cid. (two.connections cid).forward)
-          (λ cid. (two.connections cid).address) one.addresses) two.addresses);
-      peers = λ addr. subst (λ ns. LeadTo is_change noted (temp_at addr m) ns (temp_at addr second.machine))
-          (sym (flat_map-append (notes_by addr) first.actions second.actions))
-          (leads_on is_change noted (temp_at addr m) (temp_at addr first.machine) (temp_at addr second.machine) (notes_in addr first.actions)
-          (notes_in addr second.actions) (one.peers addr) (two.peers addr));
-      connections = λ cid. goes_on_then cid m first next (one.connections cid) (two.connections cid);
-    }
+told_then m first next one two = search (arith, both_joined, flat_map-append, counts_on, all_at, all_still_at, leads_on, goes_on_then)
 
 -- ---- what tells nothing
 
@@ -150,22 +110,12 @@ pub record IsUnchanged (before after : Machine) : Type 0 where
 pub went_on : (cid : ℕ) (m : Machine) (effect : Effect) (o p : Option Entry) → entry_at cid m ≡ o → entry_at cid effect.machine ≡ p → effect.moves ≡ [] →
     KeepsAddress o p → LeadTo is_other_name same_state (state_of o) (names_in cid effect.actions) (state_of p) →
     stage_of o (nat_lt cid m.next_id) ≤ stage_of p (nat_lt cid effect.machine.next_id) → GoesOn cid m effect
-went_on cid m effect o p was now none address names forward =
-    let before : stage_at cid m ≡ stage_of o (nat_lt cid m.next_id) = ap (λ x. stage_of x (nat_lt cid m.next_id)) was in
-    let after : stage_at cid effect.machine ≡ stage_of p (nat_lt cid effect.machine.next_id) = ap (λ x. stage_of x (nat_lt cid effect.machine.next_id)) now in
-    record {
-      names = subst (λ x. LeadTo is_other_name same_state (state_of x) (names_in cid effect.actions) (state_at cid effect.machine)) (sym was)
-          (subst (λ x. LeadTo is_other_name same_state (state_of o) (names_in cid effect.actions) (state_of x)) (sym now) names);
-      address = subst (λ x. KeepsAddress x (entry_at cid effect.machine)) (sym was) (subst (λ x. KeepsAddress o x) (sym now) address);
-      forward = omega (arith, before, after, forward);
-      ends = subst (λ ms. IsOneEnd (causes_in cid ms) (stage_at cid m) (stage_at cid effect.machine)) (sym none) tt;
-    }
+went_on cid m effect o p was now none address names forward = search arith
 
 -- one of which nothing is told, as it was
 pub went_untold : (cid : ℕ) (m : Machine) (effect : Effect) → entry_at cid effect.machine ≡ entry_at cid m → effect.moves ≡ [] → names_in cid effect.actions ≡ [] →
     stage_at cid m ≤ stage_of (entry_at cid m) (nat_lt cid effect.machine.next_id) → GoesOn cid m effect
-went_untold cid m effect same none untold forward =
-    went_on cid m effect (entry_at cid m) (entry_at cid m) refl same none (keeps_itself (entry_at cid m)) (rw untold refl) forward
+went_untold cid m effect same none untold forward = search (arith, went_on, keeps_itself)
 
 pub told_unchanged : (m : Machine) (effect : Effect) → IsMute effect.actions → effect.moves ≡ [] → IsUnchanged m effect.machine → IsTold m effect
 told_unchanged m effect mute none same = record {
@@ -187,28 +137,7 @@ mute-none = record { closes = refl; dials = refl; given = refl; notes = λ addr.
 -- a move that is neither an end nor a dial
 pub told_move : (happened : Happened) (m : Machine) (effect : Effect) → ended_by happened ≡ [] → promoted_by_dial happened m.next_id effect.machine.next_id ≡ [] →
     IsTold m effect → IsTold m (as_move happened m effect)
-told_move happened m effect no_end no_dial h =
-    let move : Move = record { happened = happened; before = m; after = effect.machine } in
-    let ends : ends_in effect.moves ≡ ends_in (effect.moves ++ move ∷ []) =
-    sym (append-nothing (ends_in effect.moves) (ends_in (move ∷ [])) (ap (λ l. l ++ []) no_end)) ∙ sym (flat_map-append ends_of_move effect.moves (move ∷ [])) in
-    record {
-      closes = h.closes ∙ ends;
-      dials = h.dials
-          ∙ (sym (append-nothing (dial_promotions_in effect.moves) (dial_promotions_in (move ∷ [])) (ap (λ l. l ++ []) no_dial))
-          ∙ sym (flat_map-append (λ x. promoted_by_dial x.happened x.before.next_id x.after.next_id) effect.moves (move ∷ [])));
-      given = h.given;
-      addresses = h.addresses;
-      peers = h.peers;
-      connections = λ cid. record {
-        names = (h.connections cid).names;
-        address = (h.connections cid).address;
-        forward = (h.connections cid).forward;
-        ends = subst (λ es. IsOneEnd (flat_map (causes_by cid) es) (stage_at cid m) (stage_at cid effect.machine)) ends (h.connections cid).ends;
-      };
-    }
-  where
-    append-nothing : {X : Type 0} (xs ys : List X) → ys ≡ [] → xs ++ ys ≡ xs
-    append-nothing xs ys none = ap (λ l. xs ++ l) none ∙ append-nil xs
+told_move happened m effect no_end no_dial h = search (arith, flat_map-append, append-nil)
 
 -- ---- what is sent, put off, or asked of others
 
@@ -224,10 +153,10 @@ are_mute [] = true
 are_mute (a ∷ actions) = is_mute a && are_mute actions
 
 mute_first : (a : Action) (actions : List Action) → is_mute a ≡ true → IsMute actions → IsMute (a ∷ actions)
-mute_first (Turnaway away) actions is rest = record { closes = rest.closes; dials = rest.dials; given = rest.given; notes = rest.notes; names = rest.names }
-mute_first (Send cid payload) actions is rest = record { closes = rest.closes; dials = rest.dials; given = rest.given; notes = rest.notes; names = rest.names }
-mute_first (Pause delay) actions is rest = record { closes = rest.closes; dials = rest.dials; given = rest.given; notes = rest.notes; names = rest.names }
-mute_first (AskRoots job) actions is rest = record { closes = rest.closes; dials = rest.dials; given = rest.given; notes = rest.notes; names = rest.names }
+mute_first (Turnaway away) actions is rest = assumption
+mute_first (Send cid payload) actions is rest = assumption
+mute_first (Pause delay) actions is rest = assumption
+mute_first (AskRoots job) actions is rest = assumption
 mute_first other actions is rest = absurd (false≢true is)
 
 pub mute : (actions : List Action) → are_mute actions ≡ true → IsMute actions

@@ -1,27 +1,28 @@
 -- Each event of the whole machine.
 use Rattle.std.proofs.Common.{ℕ, zero, suc, ◌+◌, ◌≤◌, ◌≡◌, true, false, cond, nat_le, if◌then◌else◌, List, length, All, Option, Some, None, refl, sym, ap, ◌∙◌, subst, arith, leb-false}
-use Rattle.laws.proofs.Words.{cond_both, both_ways, and_parts, false≢true, All-push}
-use Rattle.laws.specs.Words.{same_address, Overwritten, Fault, HandshakeWait, ReplyWait, Addr, Event, Now, Govern, Accepted, Dialed, Bytes, Closed, Aims, Locals, Roots, BigAims, Bigs, Group, RootAnswer, Found, Failed, Peer, Deadline, Kind, Handshake, TimeWait, expired, is_live, is_live_at, cleaned, members_of, awaits, publics_of, found, failed, Machine, Entry, counted_in, live_entry_at, Effect, Move, shared, nothing_more, as_move, for_each, on_entry, peer_at, peer_is_ordinary, peer_comes, with_entry, without_entry, entry_turns, closing_entry, ending, deadlines, due, fires_as, fires, fires_some, fire_due, fire_all, clock_shows, admitted, peer_connects, peer_closes, dial_ends, govern, targets_are, big_targets_are, comes_ordinary, locals_are, is_wanted_big, comes_big, bigs_are, roots_say, roots_answer, bytes_come_in, step}
+use Rattle.laws.proofs.Words.{cond_both, both_ways, and_parts, false≢true}
+use Rattle.laws.specs.Words.{same_address, Overwritten, Fault, HandshakeWait, ReplyWait, Addr, Event, Now, Govern, Accepted, Dialed, Bytes, Closed, Aims, Locals, Roots, BigAims, Bigs, Group, RootAnswer, Found, Failed, Peer, Deadline, Kind, Handshake, TimeWait, expired, is_live, is_live_at, cleaned, members_of, awaits, publics_of, found, failed, Machine, Entry, counted_in, live_entry_at, Effect, shared, nothing_more, as_move, for_each, on_entry, peer_at, peer_is_ordinary, peer_comes, with_entry, without_entry, entry_turns, closing_entry, ending, deadlines, due, fires_as, fires, fires_some, fire_due, fire_all, clock_shows, admitted, peer_connects, comes_ordinary, locals_are, is_wanted_big, comes_big, roots_say, step}
 use Rattle.net_base.specs.declared.timer.Kind.TheVariants.{Grace as GraceKind}
 use Rattle.laws.specs.AtMoves.{IsLawful}
-use Rattle.laws.specs.Steady.{IsShaped, IsFormed, IsSteady, TiedBy, IsTied, IsOwing, IsOrdered}
+use Rattle.laws.specs.Steady.{IsFormed, IsSteady, TiedBy, IsTied, IsOrdered}
 use Rattle.laws.specs.Laws.{is_local, LocalsAreOrdinary}
 use Rattle.laws.proofs.Addresses.{same_address-true}
 use Rattle.laws.proofs.Entries.{TurnsInto}
 use Rattle.laws.proofs.Firing.{Due, due_of}
-use Rattle.laws.proofs.Ties.{turned-ties, gone-ties, gone_here, come-ties}
+use Rattle.laws.proofs.Ties.{turned-ties, gone-ties, gone_here}
 use Rattle.laws.proofs.Governing.{govern-trimmed}
 use Rattle.laws.proofs.GroupsApart.{cleaned-apart}
 use Rattle.laws.proofs.Counts.{counted_of, late_in, counted-expired, counted-closing, late-expired, late-closing}
 use Rattle.laws.proofs.Effects.{one_if-not_counted}
-use Rattle.laws.proofs.Events.{StaysSound, admitted_entry, at_moment, at_moment-orderly, ahead-none_late, none_late-ahead, peer_connects-sound, clock_shows-sound}
+use Rattle.laws.proofs.Events.{at_moment, at_moment-orderly, ahead-none_late, none_late-ahead, clock_shows-sound}
+use Rattle.laws.proofs.Promotions.{admitted-keeps}
 use Rattle.laws.proofs.Keeping.{Keeps, keeps_nothing, keeps_then, moves-keeps, turns-moves, goes-moves, elsewhere-keeps, changes-keeps, peer_comes-keeps, for_each-keeps, for_each_that-keeps}
 use Rattle.laws.proofs.Lists.{StandsAt, find_some}
 use Rattle.laws.proofs.Ordinary.{members-classes}
 use Rattle.laws.proofs.Owing.{nothing-owing, alike-owing}
 use Rattle.laws.proofs.OwnAddress.{IsOther, members-other, publics-other, wanted-other, wanted-not_local}
 use Rattle.laws.proofs.Settings.{timewait-positive}
-use Rattle.laws.proofs.Shapes.{accepted-shaped, expired-shaped, closing-shaped}
+use Rattle.laws.proofs.Shapes.{expired-shaped, closing-shaped}
 use Rattle.laws.proofs.Streams.{bytes_come_in-trimmed}
 use Rattle.laws.proofs.Trims.{Trimmed}
 use Rattle.laws.proofs.WholeMoves.{ending-keeps, overwritten-keeps, vanishes-keeps, connects-keeps, stands-shaped, alike-keeps, stands-owing}
@@ -38,7 +39,7 @@ ordinary-keeps addr m h = changes-keeps addr (λ p. record p { big = false }) m 
   where
     same_peer : (p : Peer) (o : Option Entry) → TiedBy m.now (Some p) o → TiedBy m.now (Some (record p { big = false })) o
     same_peer p None tie = tie
-    same_peer p (Some e) tie = record { established = tie.established; in_use = tie.in_use; on_its_way = tie.on_its_way; asked = tie.asked }
+    same_peer p (Some e) tie = assumption
 
 locals-keeps : (groups : List Group) (m : Machine) → IsOrdered m → Keeps 0 m (locals_are groups m).machine
 locals-keeps groups m h =
@@ -70,26 +71,6 @@ roots_say-keeps (Found ttl addrs) m h =
     (for_each_that-keeps IsOther comes_ordinary comes_ordinary-keeps publics n first.ordered (publics-other m.settings m.targets.root addrs))
 roots_say-keeps Failed m h = elsewhere-keeps m.targets m.big_targets (failed m.now m.settings.backoff m.roots) m h (λ job never. absurd cc)
 
--- ---- a peer connects
-
-admitted-formed : (addr : Addr) (m : Machine) → IsOther m.settings addr → IsFormed m → IsFormed (admitted addr m).machine
-admitted-formed addr m other h = assumption (
-  All-push (λ e. IsShaped e.facts) m.connections (admitted_entry addr m) h.shaped (accepted-shaped m.next_id addr (m.now + m.settings.handshake)),
-  All-push IsOwing m.connections (admitted_entry addr m) h.owing (nothing-owing (admitted_entry addr m) refl),
-  All-push (λ e. same_address e.facts.addr m.settings.own ≡ false) m.connections (admitted_entry addr m) h.other_connections other,
-)
-
-admitted-ties : (addr : Addr) (m : Machine) → live_entry_at addr m ≡ None → IsTied m → IsTied (admitted addr m).machine
-admitted-ties addr m none ties = come-ties m (admitted_entry addr m) refl none (by_option (peer_at addr m)
-    (λ o. TiedBy m.now o None → TiedBy m.now o (Some (admitted_entry addr m)))
-    (λ is tie. record { unused = refl; not_dialed = refl; not_asked = refl })
-    (λ p is tie. record {
-      established = tie;
-      in_use = λ local. absurd (false≢true local);
-      on_its_way = λ pending. absurd (false≢true pending);
-      asked = λ asked. absurd (false≢true asked);
-    })) ties
-
 -- ---- the clock
 
 expires-keeps : (m : Machine) (e : Entry) (k : ℕ) → IsOrdered m → StandsAt m.connections k e → e.facts.local ≡ true →
@@ -118,8 +99,7 @@ fires_as-keeps : (kind : Kind) (m : Machine) (e : Entry) (k : ℕ) → IsOrdered
     Keeps 0 m (fires_as kind e m).machine
 fires_as-keeps Handshake m e k h s waits = ending-keeps (Fault HandshakeWait) refl m e k h s
 fires_as-keeps GraceKind m e k h s waits = cond_both e.facts.local _ _ (λ (effect : Effect). Keeps 0 m effect.machine) (expires-keeps m e k h s) (closes_entry-keeps m e k h s)
-fires_as-keeps TimeWait m e k h s waits = moves-keeps 0 m (without_entry e.facts.cid.0 m) (goes-moves m e k h s)
-    (gone-ties m e k h.orderly s (λ live. absurd (both_ways (is_live e.facts) (waits refl) live)))
+fires_as-keeps TimeWait m e k h s waits = search (arith, moves-keeps, goes-moves, gone-ties, both_ways)
 fires_as-keeps other m e k h s waits = ending-keeps (Fault ReplyWait) refl m e k h s
 
 pub fires-keeps : (d : Deadline) (m : Machine) → IsOrdered m → due m ≡ Some d → Keeps 0 m (fires d m).machine
@@ -142,12 +122,7 @@ pub formed_at_moment : (t : ℕ) (m : Machine) → IsFormed m → IsFormed (at_m
 formed_at_moment t m h = assumption
 
 later-tied : (now t : ℕ) (o : Option Peer) (e : Option Entry) → now ≤ t → TiedBy now o e → TiedBy t o e
-later-tied now t (Some p) (Some e) past tie = record {
-  established = tie.established;
-  in_use = λ local. let ready = tie.in_use local in omega (arith, ready, past);
-  on_its_way = λ pending. let ready = tie.on_its_way pending in omega (arith, ready, past);
-  asked = tie.asked;
-}
+later-tied now t (Some p) (Some e) past tie = search (arith, tie.in_use, tie.on_its_way)
 later-tied now t o e past tie = tie
 
 -- ---- each event
@@ -160,61 +135,58 @@ pub record StaysSteady (before after : Machine) : Type 0 where
 pub ordered_of : (m : Machine) → IsSteady m → IsOrdered m
 ordered_of m h = record { orderly = h.sound.orderly; formed = h.formed }
 
-steady_after : (m n : Machine) → IsSteady m → IsOrdered n → n.settings ≡ m.settings → counted_in n ≤ m.settings.hard → late_in n ≤ late_in m → IsTied n →
+steady_after : {m n : Machine} → IsSteady m → IsOrdered n → n.settings ≡ m.settings → counted_in n ≤ m.settings.hard → late_in n ≤ late_in m → IsTied n →
     LocalsAreOrdinary n → StaysSteady m n
-steady_after m n h ordered settings counted late tied locals =
-    let none : late_in m ≡ 0 = ahead-none_late m h.sound.deadlines in
-    assumption (ordered, subst (λ s. counted_in n ≤ s.hard) (sym settings) counted, none_late-ahead n (omega (arith, late, none)))
+steady_after {m} {n} h ordered settings counted late tied locals = search (arith, ahead-none_late, none_late-ahead)
 
-trimmed-steady : (Law : Move → Type 0) (m : Machine) (effect : Effect) → IsSteady m → Trimmed Law m effect → StaysSteady m effect.machine
-trimmed-steady Law m effect h t = steady_after m effect.machine h t.ordered t.settings t.counted t.late (t.ties h.tied) (t.classes h.locals)
+trimmed-steady : {m : Machine} {effect : Effect} → IsSteady m → Trimmed IsLawful m effect → StaysSteady m effect.machine
+trimmed-steady h t = steady_after h t.ordered t.settings t.counted t.late (t.ties h.tied) (t.classes h.locals)
 
-kept-steady : (m n : Machine) → IsSteady m → Keeps 0 m n → StaysSteady m n
-kept-steady m n h k = steady_after m n h k.ordered k.settings (omega (arith, k.counted, h.sound.counted)) k.late (k.ties h.tied) (k.classes h.locals)
+raised-steady : {raised : ℕ} {m n : Machine} → counted_in m + raised ≤ m.settings.hard → IsSteady m → Keeps raised m n → StaysSteady m n
+raised-steady room h k = steady_after h k.ordered k.settings (omega (arith, k.counted, room)) k.late (k.ties h.tied) (k.classes h.locals)
 
-stays-steady : (m n : Machine) → StaysSound m n → IsFormed n → IsTied n → LocalsAreOrdinary n → StaysSteady m n
-stays-steady m n sound formed tied locals = record { steady = record { sound = sound.sound; formed = formed; tied = tied; locals = locals }; settings = sound.settings }
-
-abbrev IsWhole : Effect → Type 0
-IsWhole effect = IsFormed effect.machine × IsTied effect.machine × LocalsAreOrdinary effect.machine
+kept-steady : {m n : Machine} → IsSteady m → Keeps 0 m n → StaysSteady m n
+kept-steady h = raised-steady (let few = h.sound.counted in omega (arith, few)) h
 
 clock-steady : (t : ℕ) (m : Machine) → IsSteady m → StaysSteady m (clock_shows t m).machine
 clock-steady t m h =
     let n : Machine = at_moment t m in
-    let whole : IsWhole (clock_shows t m) = cond_both (nat_le t m.now) (nothing_more m) (fire_all n) IsWhole (λ past. (h.formed, h.tied, h.locals))
+    let sound = clock_shows-sound t m h.sound in
+    let whole : IsFormed (clock_shows t m).machine × IsTied (clock_shows t m).machine × LocalsAreOrdinary (clock_shows t m).machine = cond_both (nat_le t m.now) (nothing_more m) (fire_all n)
+    (λ effect. IsFormed effect.machine × IsTied effect.machine × LocalsAreOrdinary effect.machine) (λ past. (h.formed, h.tied, h.locals))
     (λ later.
     let fired = fire_due-keeps (length (deadlines n)) n (record { orderly = at_moment-orderly t m h.sound.orderly; formed = formed_at_moment t m h.formed }) in
     let above = leb-false t m.now later in
     (fired.ordered.formed, fired.ties (λ b. later-tied m.now t (peer_at b m) (live_entry_at b m) (omega (arith, above)) (h.tied b)), fired.classes h.locals)) in
-    stays-steady m (clock_shows t m).machine (clock_shows-sound t m h.sound) whole.0 whole.1 whole.2
+    record { steady = record { sound = sound.sound; formed = whole.0; tied = whole.1; locals = whole.2 }; settings = sound.settings }
 
 connects-steady : (addr : Addr) (m : Machine) → IsSteady m → StaysSteady m (peer_connects addr m).machine
-connects-steady addr m h =
-    let whole : IsWhole (peer_connects addr m) = connects-cases addr m IsWhole (λ cause. (h.formed, h.tied, h.locals))
-    (λ room none. (admitted-formed addr m room.other h.formed, admitted-ties addr m none h.tied, h.locals))
+connects-steady addr m h = connects-cases addr m (λ effect. StaysSteady m effect.machine) (λ cause. kept-steady h (keeps_nothing m (ordered_of m h)))
+    (λ room none. raised-steady (fits room.below) h (admitted-keeps addr m (ordered_of m h) none room.other))
     (λ room e is pending.
     let at = find_some (λ y. is_live_at addr y.facts) m.connections e is in
     let parts = and_parts (same_address e.facts.addr addr) (is_live e.facts) at.passes in
     let n : Machine = (ending Overwritten e m).machine in
-    let ends = overwritten-keeps m e at.place (ordered_of m h) at.stands pending in (
-      admitted-formed addr n room.other ends.ordered.formed,
-      admitted-ties addr n (subst (λ a. live_entry_at a n ≡ None) (same_address-true e.facts.addr addr parts.0) (gone_here m e at.place h.sound.orderly at.stands parts.1)) (ends.ties h.tied),
-      h.locals,
-    )) in
-    stays-steady m (peer_connects addr m).machine (peer_connects-sound addr m h.sound) whole.0 whole.1 whole.2
+    let ends : Keeps 0 m n = overwritten-keeps m e at.place (ordered_of m h) at.stands pending in
+    let none : live_entry_at addr n ≡ None =
+    subst (λ a. live_entry_at a n ≡ None) (same_address-true e.facts.addr addr parts.0) (gone_here m e at.place h.sound.orderly at.stands parts.1) in
+    raised-steady (fits room.below) h (keeps_then 0 1 m n (admitted addr n).machine ends (admitted-keeps addr n ends.ordered none room.other)))
+  where
+    fits : nat_le m.settings.hard (counted_in m) ≡ false → counted_in m + 1 ≤ m.settings.hard
+    fits below = let above = leb-false m.settings.hard (counted_in m) below in omega (arith, above)
 
 pub step-steady : (m : Machine) (event : Event) → IsSteady m → StaysSteady m (step m event).machine
 step-steady m (Now t) h = clock-steady t m h
-step-steady m (Govern word) h = trimmed-steady IsLawful m (govern word m) h (govern-trimmed word m (ordered_of m h) h.sound.counted)
+step-steady m (Govern word) h = trimmed-steady h (govern-trimmed word m (ordered_of m h) h.sound.counted)
 step-steady m (Accepted addr) h = connects-steady addr m h
-step-steady m (Dialed cid opened) h = kept-steady m (dial_ends cid opened m).machine h (dialed-cases cid opened m (λ effect. Keeps 0 m effect.machine)
+step-steady m (Dialed cid opened) h = kept-steady h (dialed-cases cid opened m (λ effect. Keeps 0 m effect.machine)
     (keeps_nothing m (ordered_of m h)) (λ e k s dials. connects-keeps m e k (ordered_of m h) s dials) (λ e k s dials. vanishes-keeps m e k (ordered_of m h) s))
-step-steady m (Bytes cid bytes) h = trimmed-steady IsLawful m (bytes_come_in cid bytes m) h (bytes_come_in-trimmed cid bytes m (ordered_of m h) h.sound.counted)
-step-steady m (Closed cid) h = kept-steady m (peer_closes cid m).machine h (closes-cases cid m (λ effect. Keeps 0 m effect.machine) (keeps_nothing m (ordered_of m h))
+step-steady m (Bytes cid bytes) h = trimmed-steady h (bytes_come_in-trimmed cid bytes m (ordered_of m h) h.sound.counted)
+step-steady m (Closed cid) h = kept-steady h (closes-cases cid m (λ effect. Keeps 0 m effect.machine) (keeps_nothing m (ordered_of m h))
     (λ e k s own. vanishes-keeps m e k (ordered_of m h) s))
-step-steady m (Aims targets) h = kept-steady m (targets_are targets m).machine h (elsewhere-keeps targets m.big_targets m.roots m (ordered_of m h) h.formed.pending_job)
-step-steady m (Locals groups) h = kept-steady m (locals_are groups m).machine h (locals-keeps groups m (ordered_of m h))
-step-steady m (Roots job answer) h = kept-steady m (roots_answer job answer m).machine h (cond_both (awaits job.0 m.roots) _ _
+step-steady m (Aims targets) h = kept-steady h (elsewhere-keeps targets m.big_targets m.roots m (ordered_of m h) h.formed.pending_job)
+step-steady m (Locals groups) h = kept-steady h (locals-keeps groups m (ordered_of m h))
+step-steady m (Roots job answer) h = kept-steady h (cond_both (awaits job.0 m.roots) _ _
     (λ (effect : Effect). Keeps 0 m effect.machine) (λ pending. roots_say-keeps answer m (ordered_of m h)) (λ other. keeps_nothing m (ordered_of m h)))
-step-steady m (BigAims targets) h = kept-steady m (big_targets_are targets m).machine h (elsewhere-keeps m.targets targets m.roots m (ordered_of m h) h.formed.pending_job)
-step-steady m (Bigs addrs) h = kept-steady m (bigs_are addrs m).machine h (for_each-keeps comes_big comes_big-keeps addrs m (ordered_of m h))
+step-steady m (BigAims targets) h = kept-steady h (elsewhere-keeps m.targets targets m.roots m (ordered_of m h) h.formed.pending_job)
+step-steady m (Bigs addrs) h = kept-steady h (for_each-keeps comes_big comes_big-keeps addrs m (ordered_of m h))
