@@ -1,7 +1,9 @@
 -- What a search finds once one element of a list has changed or gone, where at most one passes.
-use Rattle.std.proofs.Common.{ℕ, zero, suc, ◌≡◌, Bool, true, false, cond, List, [], ◌∷◌, find, set, remove, Some, None, All, refl, ap, ◌∙◌, arith}
+use Rattle.std.proofs.Common.{ℕ, zero, suc, ◌≡◌, Bool, true, false, cond, List, [], ◌∷◌, find, set, remove, Some, None, All, refl, ap, ◌∙◌, arith, Option, filter, map, not, if◌then◌else◌, ◌==◌, sym, subst, eqb-true, eq-eqb, ne_eqb}
 use Rattle.laws.proofs.Lists.{StandsAt, stands_before, OnePasses, OnePasses-none_after, OnePasses-not_before, OnePasses-tail}
-use Rattle.laws.proofs.Words.{All-head, All-tail, find_past}
+use Rattle.laws.specs.Words.{option_map, has_id, Entry}
+use Rattle.laws.proofs.Cases.{by_bool}
+use Rattle.laws.proofs.Words.{All-head, All-tail, find_past, both_ways}
 
 pub find-none_passes : {X : Type 0} (p : X → Bool) (xs : List X) → All (λ x. p x ≡ false) xs → find p xs ≡ None
 find-none_passes p [] h = refl
@@ -48,3 +50,55 @@ find-remove_here p x (y ∷ ys) zero one s passes =
 find-remove_here p x (y ∷ ys) (suc k) one s passes =
     let rest : StandsAt ys k x = stands_before y x ys k s in
     grind (arith, OnePasses-not_before p y x ys k one rest passes, find-remove_here p x ys k (OnePasses-tail p y ys one) rest passes)
+
+-- ---- by an id
+
+either_way : {X : Type 0} (o : Option X) (b : Bool) → o ≡ (if b then o else o)
+either_way o true = refl
+either_way o false = refl
+
+-- what is found once one that has its id takes the place of each
+pub replaced : (c : ℕ) (new : Entry) (es : List Entry) → find (λ e. has_id c e.facts) (map (λ e. if has_id new.facts.cid.0 e.facts then new else e) es)
+    ≡ (if has_id c new.facts then option_map (λ e. new) (find (λ e. has_id c e.facts) es) else find (λ e. has_id c e.facts) es)
+replaced c new [] = either_way {X = Entry} None (has_id c new.facts)
+replaced c new (e ∷ es) =
+    let later : Option Entry = find (λ x. has_id c x.facts) (map (λ x. if has_id new.facts.cid.0 x.facts then new else x) es) in
+    let was : Option Entry = find (λ x. has_id c x.facts) es in
+    by_bool (has_id new.facts.cid.0 e.facts)
+    (λ a. cond (has_id c (if a then new else e).facts) (Some (if a then new else e)) later
+    ≡ (if has_id c new.facts then option_map (λ x. new) (cond (has_id c e.facts) (Some e) was) else cond (has_id c e.facts) (Some e) was))
+    (λ own.
+    subst (λ h. cond (has_id c new.facts) (Some new) later ≡ (if has_id c new.facts then option_map (λ x. new) (cond h (Some e) was) else cond h (Some e) was))
+    (sym (ap (λ n. n == c) (eqb-true e.facts.cid.0 new.facts.cid.0 own)))
+    (by_bool (has_id c new.facts) (λ b. later ≡ (if b then option_map (λ x. new) was else was) →
+    cond b (Some new) later ≡ (if b then option_map (λ x. new) (cond b (Some e) was) else cond b (Some e) was)) (λ is rest. refl) (λ is rest. rest) (replaced c new es)))
+    (λ apart. by_bool (has_id c new.facts) (λ b. later ≡ (if b then option_map (λ x. new) was else was) →
+    cond (has_id c e.facts) (Some e) later ≡ (if b then option_map (λ x. new) (cond (has_id c e.facts) (Some e) was) else cond (has_id c e.facts) (Some e) was))
+    (λ is rest. rw (ap (λ n. e.facts.cid.0 == n) (sym (eqb-true new.facts.cid.0 c is)) ∙ apart) rest)
+    (λ is rest. ap (λ o. cond (has_id c e.facts) (Some e) o) rest) (replaced c new es))
+
+-- where all that pass one test pass another, or none does
+pub found-filter : {X : Type 0} (q r : X → Bool) (b : Bool) → ((x : X) → q x ≡ true → r x ≡ b) → (xs : List X) → find q (filter r xs) ≡ (if b then find q xs else None)
+found-filter {X} q r b each [] = either_way {X = X} None b
+found-filter {X} q r b each (x ∷ xs) = by_tests (q x) refl (r x) refl b (each x) (found-filter q r b each xs)
+  where
+    by_tests : (c : Bool) → q x ≡ c → (d : Bool) → r x ≡ d → (e : Bool) → (q x ≡ true → r x ≡ e) → find q (filter r xs) ≡ (if e then find q xs else None) →
+        find q (cond d (x ∷ filter r xs) (filter r xs)) ≡ (if e then cond c (Some x) (find q xs) else None)
+    by_tests true passes true keeps true same rest = ap (λ y. cond y (Some x) (find q (filter r xs))) passes
+    by_tests true passes true keeps false same rest = absurd (let never : true ≡ false = sym keeps ∙ same passes in cc)
+    by_tests true passes false keeps true same rest = absurd (let never : false ≡ true = sym keeps ∙ same passes in cc)
+    by_tests true passes false keeps false same rest = rest
+    by_tests false fails true keeps e same rest = ap (λ y. cond y (Some x) (find q (filter r xs))) fails ∙ rest
+    by_tests false fails false keeps e same rest = rest
+
+-- one goes
+pub gone-found : (c cid : ℕ) (es : List Entry) → find (λ e. has_id c e.facts) (filter (λ e. not (has_id cid e.facts)) es)
+    ≡ (if cid == c then None else find (λ e. has_id c e.facts) es)
+gone-found c cid es =
+    found-filter (λ e. has_id c e.facts) (λ e. not (has_id cid e.facts)) (not (cid == c))
+    (λ e own. ap not (ap (λ n. n == cid) (eqb-true e.facts.cid.0 c own) ∙ same_turned)) es
+    ∙ by_bool (cid == c) (λ b. (if not b then find (λ e. has_id c e.facts) es else None) ≡ (if b then None else find (λ e. has_id c e.facts) es)) (λ is. refl) (λ is. refl)
+  where
+    same_turned : (c == cid) ≡ (cid == c)
+    same_turned = by_bool (cid == c) (λ b. (c == cid) ≡ b) (λ is. eq-eqb c cid (sym (eqb-true cid c is)))
+        (λ other. ne_eqb c cid (λ same. both_ways (cid == c) other (eq-eqb cid c (sym same))))

@@ -84,7 +84,7 @@ roots_answer-none job answer m = cond_both (awaits job.0 m.roots) (roots_say ans
 -- ---- bytes
 
 handles-none : (cid : Cid) (item : Item) (m : Machine) → Given m (handles cid item m)
-handles-none cid item m = found-none cid.0 (handled item) m (λ e stands. handled-walk anything Given none-kept e.facts.phase item e m refl refl stands)
+handles-none cid item m = found-none cid.0 (handled item) m (λ e stands. handled-walk anything Given none-kept e.facts.phase item e m refl refl refl stands)
 
 fed_with-none : (fed : FedBy) (e : Entry) (m : Machine) → GivesNone m (fed_with fed e m).machine
 fed_with-none fed e m =

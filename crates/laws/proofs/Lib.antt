@@ -24,6 +24,7 @@ mod Falls
 mod OpenEnds
 mod Lingers
 mod Heats
+mod Cooling
 mod Known
 mod Classes
 mod Ordering

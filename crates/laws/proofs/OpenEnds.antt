@@ -195,7 +195,7 @@ uncaused cid (move ∷ moves) h = by_happened move.happened h (uncaused cid move
     by_happened (unused old) h later = by_id (old == cid) _ h later
     by_happened other h later = later h
 
-live-stage : (o : Option Entry) (given : Bool) → is_open_entry o ≡ true → stage_of o given ≤ 3
+pub live-stage : (o : Option Entry) (given : Bool) → is_open_entry o ≡ true → stage_of o given ≤ 3
 live-stage None given h = absurd (false≢true h)
 live-stage (Some e) given h = live_stage e.facts.phase h
 

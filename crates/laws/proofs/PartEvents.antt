@@ -6,7 +6,7 @@ use Rattle.laws.specs.Acts.{Act, shows, fires_one, asks_for_roots, carries, conn
 use Rattle.laws.specs.AtMoves.{IsLawful, is_known, is_provided_by, fed_on}
 use Rattle.laws.specs.Parts.{IsAccounted, IsLawfulEvent, IsLawfulPart}
 use Rattle.laws.specs.Sends.{Speaks}
-use Rattle.laws.specs.Steady.{IsSteady, IsOrdered}
+use Rattle.laws.specs.Steady.{IsSteady, IsTied, IsOrdered}
 use Rattle.laws.proofs.Addresses.{same_address-self, same_address-true}
 use Rattle.laws.proofs.CarriedOut.{carried-out}
 use Rattle.laws.proofs.Chain.{orders-chain, parts-chain}
@@ -86,6 +86,7 @@ record Feeding (cid : Cid) (m : Machine) : Type 0 where
   ordered : IsOrdered m
   within : counted_in m ≤ m.settings.hard
   open_ : IsOpen cid.0 m
+  tied : IsTied m
 
 items-parts : (event : Event) (cid : Cid) (fed : FedBy) (items : List Item) (m : Machine) → Feeding cid m →
     AreLawful event (map (handles_item cid) items ++ ends_stream cid fed.state.fault ∷ []) m
@@ -95,14 +96,14 @@ items-parts event cid fed [] m f =
 items-parts event cid fed (item ∷ items) m f =
     let effect : Effect = handles cid item m in
     let t : Trimmed IsLawful m effect = handles-trimmed cid item m f.ordered f.within in
-    first_part event (handles_item cid item) (map (handles_item cid) items ++ ends_stream cid fed.state.fault ∷ []) m tt tt tt f.ordered
+    first_part event (handles_item cid item) (map (handles_item cid) items ++ ends_stream cid fed.state.fault ∷ []) m tt tt f.tied f.ordered
     (accounted-part event m effect t.accounted)
     (items-parts event cid fed items effect.machine
-    (record { ordered = t.ordered; within = trimmed-within IsLawful m effect t; open_ = handles-open cid item m f.ordered f.open_ }))
+    (record { ordered = t.ordered; within = trimmed-within IsLawful m effect t; open_ = handles-open cid item m f.ordered f.open_; tied = t.ties f.tied }))
 
 fed-parts : (event : Event) (fed : FedBy) (m : Machine) (e : Entry) (k : ℕ) → IsOrdered m → counted_in m ≤ m.settings.hard → StandsAt m.connections k e →
-    is_live e.facts ≡ true → AreLawful event (acts_fed fed e) m
-fed-parts event fed m e k h within s live =
+    is_live e.facts ≡ true → IsTied m → AreLawful event (acts_fed fed e) m
+fed-parts event fed m e k h within s live ties =
     let new : Entry = record e { undecoded = fed.state.undecoded } in
     let n : Machine = with_entry new m in
     let keeps : Keeps 0 m n = decodes-keeps fed.state.undecoded m e k h s in
@@ -112,10 +113,10 @@ fed-parts event fed m e k h within s live =
     (turns-obeys (λ move. Unit {0}) m e new k h.orderly s (record { same_id = refl; same_addr = refl; live = λ l. l }) (record { up = λ up. up; asked = λ asked. asked })
     (omega arith)).accounted)
     (items-parts event e.facts.cid fed fed.items n
-    (record { ordered = keeps.ordered; within = omega (arith, keeps.counted, hard, within); open_ = turned-open new m live }))
+    (record { ordered = keeps.ordered; within = omega (arith, keeps.counted, hard, within); open_ = turned-open new m live; tied = keeps.ties ties }))
 
-bytes-parts : (cid : Cid) (bytes : List ℕ) (m : Machine) → IsOrdered m → counted_in m ≤ m.settings.hard → AreLawful (Bytes cid bytes) (acts m (Bytes cid bytes)) m
-bytes-parts cid bytes m h within = by_option (entry_at cid.0 m) (λ o. AreLawful (Bytes cid bytes) (acts_of_bytes o bytes) m)
+bytes-parts : (cid : Cid) (bytes : List ℕ) (m : Machine) → IsOrdered m → counted_in m ≤ m.settings.hard → IsTied m → AreLawful (Bytes cid bytes) (acts m (Bytes cid bytes)) m
+bytes-parts cid bytes m h within ties = by_option (entry_at cid.0 m) (λ o. AreLawful (Bytes cid bytes) (acts_of_bytes o bytes) m)
     (λ is. no_part (Bytes cid bytes) m)
     (λ e is.
     let at = find_some (λ y. has_id cid.0 y.facts) m.connections e is in
@@ -123,7 +124,7 @@ bytes-parts cid bytes m h within = by_option (entry_at cid.0 m) (λ o. AreLawful
   where
     by_test : (e : Entry) (k : ℕ) → StandsAt m.connections k e → (b : Bool) → (is_greeting e.facts || is_negotiated e.facts) ≡ b →
         AreLawful (Bytes cid bytes) (if b then acts_fed (fed_on e bytes) e else []) m
-    by_test e k s true is = fed-parts (Bytes cid bytes) (fed_on e bytes) m e k h within s (open-live e.facts.phase is)
+    by_test e k s true is = fed-parts (Bytes cid bytes) (fed_on e bytes) m e k h within s (open-live e.facts.phase is) ties
     by_test e k s false is = no_part (Bytes cid bytes) m
 
 -- ---- what is set and provided
@@ -194,7 +195,7 @@ parts-lawful m (Accepted addr) h =
 parts-lawful m (Dialed cid opened) h =
     one_part (Dialed cid opened) (ends_dial cid opened) m tt tt tt tt
     (accounted-part (Dialed cid opened) m (does (ends_dial cid opened) m) (dial_ends-obeys cid opened m (ordered_of m h)).accounted)
-parts-lawful m (Bytes cid bytes) h = bytes-parts cid bytes m (ordered_of m h) h.sound.counted
+parts-lawful m (Bytes cid bytes) h = bytes-parts cid bytes m (ordered_of m h) h.sound.counted h.tied
 parts-lawful m (Closed cid) h = one_part (Closed cid) (is_closed cid) m (λ id is. is) tt tt tt (accounted-part (Closed cid) m (does (is_closed cid) m) (closes-accounted cid m (ordered_of m h)))
 parts-lawful m (Aims targets) h = one_part (Aims targets) (sets_targets targets) m tt tt tt tt (set-part (Aims targets) (sets_targets targets) m refl refl refl refl refl)
 parts-lawful m (Locals groups) h = locals-parts groups m

@@ -5,7 +5,6 @@ use Rattle.laws.specs.Words.{AllByRecursion, Addr, Event, Effect, for_each, noth
 use Rattle.laws.specs.Acts.{Act, ends_dial, is_closed, does, parts_from}
 use Rattle.laws.specs.AtMoves.{is_negotiated_entry, is_negotiated_at, is_ended_in, is_closed_by, is_up, is_hot_or_asked, is_known, promotes, activates, is_shared_in, is_provided_by, shares}
 use Rattle.laws.specs.OpenEnds.{is_open_entry, is_open_at, is_dialing_entry, goes_by_itself}
-use Rattle.laws.specs.CarriedOut.{IsDoneByOrder}
 use Rattle.laws.specs.Parts.{IsNext, IsDone, EndsOnce, IsAccounted, IsLawfulPart, RisesBy, Arrives}
 use Rattle.laws.specs.Sends.{Speaks}
 use Rattle.laws.specs.Stages.{stage_of, stage_at}
@@ -17,6 +16,7 @@ use Rattle.laws.proofs.BackOff.{treats, forgives}
 use Rattle.laws.proofs.Begun.{over-after, waits-begin}
 use Rattle.laws.proofs.Goes.{goes-where}
 use Rattle.laws.proofs.Heats.{heats-up}
+use Rattle.laws.proofs.Cooling.{Given, given-order, cools-only}
 use Rattle.laws.proofs.Classes.{keeps-class}
 use Rattle.laws.proofs.Known.{keeps-known}
 use Rattle.laws.proofs.Lingers.{lingers}
@@ -126,16 +126,17 @@ providing-part event m effect p named =
       arrivals = λ addr known. grind (arith, named addr known);
     }
 
-lawful-part : (event : Event) (act : Act) (m : Machine) → ClosesBy act event → IsNext act m → IsDoneByOrder act m (does act m) → Finds act m →
+lawful-part : (event : Event) (act : Act) (m : Machine) → ClosesBy act event → IsNext act m → Given act m → Finds act m →
     Tells event m (does act m) → IsLawfulPart event (record { act = act; before = m })
-lawful-part event act m closes next order found h = record {
+lawful-part event act m closes next given found h = record {
   accounted = accounted_by event m (does act m) h (ends-known event act m closes next found h.told);
   next = next;
-  order = order;
+  order = given-order act m given;
   book = treats-book act m;
   classes = keeps-class act m next found;
   known = keeps-known act m next found;
   heats = heats-up act m;
+  cools = cools-only act m next found given;
   forgiven = forgives act m;
   pauses = pauses-right act m next found;
   ends = (ends-rightly act m found).others;
@@ -176,19 +177,19 @@ no_part event m = record {
   ends = λ cid before. or_left (is_negotiated_at cid m) (false || is_closed_by cid event) before;
 }
 
-pub first_part : (event : Event) (act : Act) (acts : List Act) (m : Machine) → ClosesBy act event → IsNext act m → IsDoneByOrder act m (does act m) → Finds act m → Tells event m (does act m) →
+pub first_part : (event : Event) (act : Act) (acts : List Act) (m : Machine) → ClosesBy act event → IsNext act m → Given act m → Finds act m → Tells event m (does act m) →
     AreLawful event acts (does act m).machine → AreLawful event (act ∷ acts) m
 unfolding parts_from for_each
-first_part event act acts m closes next order found h rest = record {
-  each = (lawful-part event act m closes next order found h, rest.each);
+first_part event act acts m closes next given found h rest = record {
+  each = (lawful-part event act m closes next given found h, rest.each);
   tells = tells_then event m (does act m) (for_each does acts) h rest.tells;
   speaks = speaks_then m (does act m) (for_each does acts) h.told (speaks-right act m next found) rest.speaks;
   ends = stays_then is_negotiated_at (λ cid. is_closed_by cid event) m (does act m) (for_each does acts) (ends-known event act m closes next found h.told) rest.ends;
 }
 
-pub one_part : (event : Event) (act : Act) (m : Machine) → ClosesBy act event → IsNext act m → IsDoneByOrder act m (does act m) → Finds act m →
+pub one_part : (event : Event) (act : Act) (m : Machine) → ClosesBy act event → IsNext act m → Given act m → Finds act m →
     Tells event m (does act m) → AreLawful event (act ∷ []) m
-one_part event act m closes next order found h = first_part event act [] m closes next order found h (no_part event (does act m).machine)
+one_part event act m closes next given found h = first_part event act [] m closes next given found h (no_part event (does act m).machine)
 
 each_more : (event : Event) (xs ys : List Act) (m : Machine) → AllByRecursion (IsLawfulPart event) (parts_from xs m) →
     AllByRecursion (IsLawfulPart event) (parts_from ys (for_each does xs m).machine) → AllByRecursion (IsLawfulPart event) (parts_from (xs ++ ys) m)

@@ -104,7 +104,7 @@ module _ {X : Type 0} (by : Action → List X) (deaf : Deaf by) where
     when_nothing = λ m. refl;
     when_both = λ m first next one two. both-silent first next one two;
     when_moved = λ happened m effect none h. h;
-    when_sent = λ cid bytes m may. one-silent (Send cid bytes) (mutes.sends may cid bytes);
+    when_sent = λ cid bytes m may. one-silent (Send cid bytes) (mutes.sends may.may cid bytes);
     when_turned = λ turn e m stands. turns-silent e (turned_by turn e m) m;
     when_stored = λ undecoded e m stands came. turns-silent e (record e { undecoded = undecoded }) m;
     when_shut = λ e m stands drops. more-silent (Close e.facts.cid Unused) (entry_turns e (closing_entry m e) m).actions (deaf.close e.facts.cid Unused)

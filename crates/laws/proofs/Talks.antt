@@ -21,8 +21,8 @@ use Rattle.laws.proofs.Ties.{changed-ties, turned_here, turned_elsewhere, live_h
 use Rattle.laws.proofs.Trims.{Trimmed, HasMoved, keeps-trimmed, ending-trimmed, nothing-trimmed, trimmed_both, trimmed_then, trimmed-within, raised_then_trimmed, trim-trims, for_each_that-trimmed}
 use Rattle.laws.proofs.WholeMoves.{negotiated-live, awakes-keeps, idles-keeps, pays-keeps}
 use Rattle.laws.proofs.OwnAddress.{IsOther, taken-other}
-use Rattle.laws.proofs.Remains.{trim-found, woken-runs as protocol-runs}
-use Rattle.laws.proofs.Walk.{replies-machine}
+use Rattle.laws.proofs.Remains.{woken-runs as protocol-runs}
+use Rattle.laws.proofs.Walk.{replies-machine, trim-found}
 use Rattle.laws.proofs.Cases.{by_bool, by_option, some_same}
 use Rattle.laws.proofs.ItemCases.{talks-cases}
 

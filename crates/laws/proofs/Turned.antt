@@ -11,7 +11,7 @@ use Rattle.laws.specs.Steady.{IsShaped, IsOrdered}
 use Rattle.laws.proofs.Addresses.{same_address-true}
 use Rattle.laws.proofs.CarriedOut.{used_one}
 use Rattle.laws.proofs.Goes.{vanishes-none}
-use Rattle.laws.proofs.Walk.{answer-machine, replies-machine, Finds, Stands, found-stands, Scope, taken, on_those, trim-walk, brings-walk, acquire-walk, release-walk, asks_peer-walk, activates-walk, begins-walk, is_released, turned_by, cooled, release-machine}
+use Rattle.laws.proofs.Walk.{own_id, StandsOpen, answer-machine, replies-machine, Finds, Stands, found-stands, Scope, taken, on_those, trim-walk, brings-walk, acquire-walk, release-walk, asks_peer-walk, activates-walk, begins-walk, is_released, turned_by, cooled, release-machine}
 use Rattle.laws.proofs.Lawful.{stands-found}
 use Rattle.laws.proofs.Lists.{FoundIn, find_some, find_only, All-stands}
 use Rattle.laws.proofs.Moments.{gone-none, ending-none, turned-found}
@@ -112,7 +112,10 @@ abbrev alone : Entry → Scope
 alone g = on_those (λ cid. g.facts.cid.0 == cid)
 
 stands_alone : (e : Entry) (m : Machine) → entry_at e.facts.cid.0 m ≡ Some e → Stands (alone e) e m
-stands_alone e m is = found-stands (alone e) e.facts.cid.0 m e is (eq-eqb e.facts.cid.0 e.facts.cid.0 refl)
+stands_alone e m is = found-stands (alone e) e.facts.cid.0 m e is (own_id e.facts.cid.0)
+
+open_alone : (e : Entry) (m : Machine) → entry_at e.facts.cid.0 m ≡ Some e → is_live e.facts ≡ true → StandsOpen (alone e) e m
+open_alone e m is live = record { may = refl; found = is; own = own_id e.facts.cid.0; live = live }
 
 -- ---- a deadline
 
@@ -249,7 +252,7 @@ used-found addr m e o local =
     (and_from (is_live_at addr e.facts) e.facts.local (and_from (same_address e.facts.addr addr) (is_live e.facts) o.here live) local)
 
 used-becomes : (addr : Addr) (act : Entry → Machine → Effect) (new : Entry) (m : Machine) (e : Entry) → Ordered addr m e →
-    ((g : Entry) → Stands (alone g) g m → Waits (alone g) m (act g m).machine) → Becomes (Some new) e.facts.cid.0 (act e m).machine →
+    ((g : Entry) → StandsOpen (alone g) g m → Waits (alone g) m (act g m).machine) → Becomes (Some new) e.facts.cid.0 (act e m).machine →
     Becomes (Some (if e.facts.local then new else e)) e.facts.cid.0 (on_used addr act m).machine
 used-becomes addr act new m e o others turns = by_bool e.facts.local
     (λ b. Becomes (Some (if b then new else e)) e.facts.cid.0 (on_used addr act m).machine)
@@ -259,8 +262,9 @@ used-becomes addr act new m e o others turns = by_bool e.facts.local
     (λ g at.
     let place : FoundIn (is_used_at addr) m.connections g = find_some (is_used_at addr) m.connections g at in
     let stands : entry_at g.facts.cid.0 m ≡ Some g = stands-found m g place.place o.ordered.orderly place.stands in
-    other-becomes (λ x. x.facts.local) m (act g m).machine e g o.ordered o.is stands not_used (and_parts (is_live_at addr g.facts) g.facts.local place.passes).1
-    (others g (stands_alone g m stands))))
+    let used = and_parts (is_live_at addr g.facts) g.facts.local place.passes in
+    other-becomes (λ x. x.facts.local) m (act g m).machine e g o.ordered o.is stands not_used used.1
+    (others g (open_alone g m stands (and_parts (same_address g.facts.addr addr) (is_live g.facts) used.0).1))))
 
 promotes-becomes : (addr : Addr) (m : Machine) (e : Entry) → Ordered addr m e → Becomes (Some (turned_by_order (Promote addr) e m)) e.facts.cid.0 (promoted_at (live_entry_at addr m) addr m).machine
 promotes-becomes addr m e o =
@@ -282,7 +286,8 @@ promotes-becomes addr m e o =
     let stands : entry_at g.facts.cid.0 m ≡ Some g = stands-found m g place.place o.ordered.orderly place.stands in
     cond_both (is_acquirable g.facts) (acquire g m) (dial addr m) (λ effect. Becomes (Some e) e.facts.cid.0 effect.machine)
     (λ free. other-becomes (λ x. is_acquirable x.facts) m (acquire g m).machine e g o.ordered o.is stands other free
-    (acquire-walk (alone g) (Waited (alone g)) (waits-kept (alone g)) g m refl (stands_alone g m stands))) (λ busy. dials)))
+    (acquire-walk (alone g) (Waited (alone g)) (waits-kept (alone g)) g m
+    (open_alone g m stands (and_parts (same_address g.facts.addr addr) (is_live g.facts) place.passes).1))) (λ busy. dials)))
 
 release-becomes : (e : Entry) (m : Machine) → e.facts.cid.0 < m.next_id → Becomes (Some (turned_by is_released e m)) e.facts.cid.0 (release e m).machine
 release-becomes e m given =
@@ -295,15 +300,15 @@ release-becomes e m given =
     (waits_then nobody n o (trim e.facts.cid o).machine (changed-waits nobody (peer_at e.facts.addr n) (λ p. record p { temp = Cold }) n) trims))
 
 orders-become : (order : Order) (m : Machine) (e : Entry) → Ordered (address_of order) m e → Becomes (Some (turned_by_order order e m)) e.facts.cid.0 (carries_out order m).machine
-orders-become (Ask addr n) m e o = used-becomes addr (asks_peer n) (owing 10 n m e) m e o (λ g stands. asks_peer-walk (alone g) (Waited (alone g)) (waits-kept (alone g)) n g m refl stands)
+orders-become (Ask addr n) m e o = used-becomes addr (asks_peer n) (owing 10 n m e) m e o (λ g stands. asks_peer-walk (alone g) (Waited (alone g)) (waits-kept (alone g)) n g m stands)
     (let w : Machine = with_entry (owing 10 n m e) m in
     then-becomes (Some (owing 10 n m e)) e.facts.cid.0 w (asks_peer n e m).machine (given_id m e o.ordered o.is) (turned-becomes e (owing 10 n m e) m refl)
     (changed-waits nobody (peer_at e.facts.addr w) (λ p. record p { share_next = m.now + m.settings.sharegap }) w))
 orders-become (Forget addr) m e o = stands-becomes e m o.is
 orders-become (Promote addr) m e o = promotes-becomes addr m e o
 orders-become (Release addr) m e o = used-becomes addr release (record e { facts = released (m.now + m.settings.idle) e.facts }) m e o
-    (λ g stands. release-walk (alone g) (Waited (alone g)) (waits-kept (alone g)) g m refl stands) (release-becomes e m (given_id m e o.ordered o.is))
-orders-become (Activate addr) m e o = used-becomes addr activates (owing 2 0 m e) m e o (λ g stands. activates-walk (alone g) (Waited (alone g)) (waits-kept (alone g)) g m refl stands) (turned-becomes e (owing 2 0 m e) m refl)
+    (λ g stands. release-walk (alone g) (Waited (alone g)) (waits-kept (alone g)) g m stands) (release-becomes e m (given_id m e o.ordered o.is))
+orders-become (Activate addr) m e o = used-becomes addr activates (owing 2 0 m e) m e o (λ g stands. activates-walk (alone g) (Waited (alone g)) (waits-kept (alone g)) g m stands) (turned-becomes e (owing 2 0 m e) m refl)
 orders-become (Deactivate addr) m e o = by_option (find (is_used_at addr) m.connections)
     (λ found. Becomes (Some e) e.facts.cid.0 (on_entry found deactivates m).machine)
     (λ is. stands-becomes e m o.is)

@@ -12,7 +12,7 @@ use Rattle.laws.specs.Waits.{until_of, until_in, until_at, until_unused, length_
 use Rattle.laws.proofs.Keeping.{note-machine}
 use Rattle.laws.proofs.RootsAsked.{roots-set}
 use Rattle.laws.proofs.Waits.{Waits, TurnsRight, kept, waits_then, waits_peers, waits_nothing, waits_turned, waits_gone, waits_come, owing-right, paid-right, was_same, bytes_same}
-use Rattle.laws.proofs.Walk.{forgets_own, Scope, Turn, opens, agrees_inbound, agrees_outbound, is_acquired, is_released, awakes, idles, expires, owes, is_paid, turned_by, turned-cid, turned-undecoded, Kept, IsChange, Finds, scope_of, orderly-finds, orders-walk, walk}
+use Rattle.laws.proofs.Walk.{allows-order, Scope, Turn, opens, agrees_inbound, agrees_outbound, is_acquired, is_released, awakes, idles, expires, owes, is_paid, turned_by, turned-cid, turned-undecoded, Kept, IsChange, Finds, scope_of, orderly-finds, orders-walk, walk}
 
 -- ---- whatever a connection turns into waits as it did, or for a whole length
 
@@ -188,7 +188,7 @@ leaves-rest act m next found = elim (sets_or_changes act m) [
 pub order-waits : (order : Order) (m : Machine) → IsOrdered m → Waits (scope_of (carries order) m) m (does (carries order) m).machine
 order-waits order m h =
     let scope : Scope = scope_of (carries order) m in
-    orders-walk scope (Waited scope) (waits-kept scope) order m refl refl (forgets_own order) (orderly-finds order m h.orderly)
+    orders-walk scope (Waited scope) (waits-kept scope) order m refl (allows-order order m) (orderly-finds order m h.orderly)
 
 pub order-unset : (order : Order) (m : Machine) → IsOrdered m → IsUnset m (does (carries order) m).machine
 order-unset order m h = (order-waits order m h).unset
