@@ -1,7 +1,7 @@
 -- A peer in use cools only by a release, a deactivation or the loss of its connection.
 use Rattle.std.proofs.Common.{ℕ, ◌+◌, ◌≡◌, ◌⊎◌, Bool, true, false, ◌&&◌, ◌||◌, ◌==◌, find, is_none, List, if◌then◌else◌, Option, Some, None, refl, sym, ap, ◌∙◌, subst, inl, inr, arith, eqb-true}
 use Rattle.laws.proofs.Words.{cond_both, and_parts, or_right, list_any_at}
-use Rattle.laws.specs.Words.{turns_at, is_established, is_acquirable, is_live_at, Facts, dial_fails, is_wanted_big, as_move, shared, option_map, unwrap_or, choice_of, has_id, same_address, failed_peer, new_peer, Addr, Cid, Peer, Temp, Cold, Warm, Hot, CloseCause, Overwritten, Pruned, Fault, Protocol, Refused, Query, HandshakeWait, ReplyWait, Order, Ask, Forget, Promote, Release, Activate, Deactivate, is_candidate, is_dialing, is_greeting_phase, is_greeting, is_live, live_phase, runs, Phase, Greeting, Negotiated, Kind, Item, CutFault, Verdict, kind_of, verdict_of, answer_of, Seen, is_missed, candidates_in, ending, vanishes, with_entry, without_entry, entry_turns, grace_over, acquire, trim, release, awake, dial, dial_opens, fires_as, Effect, nothing_more, on_entry, closes, dialed, promoted_at, is_used_at, on_used, asks_peer, activates, deactivates as rests, carries_out, peer_fails, peer_changes, peer_becomes, peer_comes, peer_goes, peer_at, role_of, judged, greets, own_info, paid, owing, handled_in, handled, faulted, serves, stops_if, begins, brings, talks, Machine, Entry, entry_at, live_entry_at}
+use Rattle.laws.specs.Words.{turns_at, is_established, is_acquirable, is_live_at, Facts, dial_fails, is_wanted_big, as_move, shared, option_map, unwrap_or, choice_of, has_id, same_address, failed_peer, new_peer, Addr, Peer, Temp, Cold, Warm, Hot, CloseCause, Overwritten, Pruned, Fault, Protocol, Refused, Query, HandshakeWait, ReplyWait, Order, Ask, Forget, Promote, Release, Activate, Deactivate, is_candidate, is_dialing, is_greeting_phase, is_greeting, is_live, runs, Phase, Greeting, Negotiated, Kind, Item, CutFault, Verdict, kind_of, verdict_of, answer_of, Seen, is_missed, candidates_in, ending, vanishes, with_entry, without_entry, grace_over, acquire, trim, release, awake, dial, dial_opens, fires_as, Effect, nothing_more, on_entry, closes, dialed, promoted_at, is_used_at, on_used, asks_peer, activates, deactivates as rests, carries_out, peer_fails, peer_changes, peer_becomes, peer_comes, peer_goes, peer_at, role_of, judged, greets, own_info, paid, owing, handled_in, handled, faulted, serves, begins, brings, talks, Machine, Entry, entry_at, live_entry_at}
 use Rattle.laws.specs.Words.verdict
 use Rattle.laws.specs.Words.kind
 use Rattle.peer_book.specs.Book.{peer_at as peer_in, with_new as with_new_in}
@@ -26,7 +26,7 @@ use Rattle.laws.proofs.Moments.{turned-found}
 use Rattle.laws.proofs.PeersApart.{entered-cases}
 use Rattle.laws.proofs.Pruning.{chosen-goes}
 use Rattle.laws.proofs.Ties.{live_here, put_in-elsewhere, taken-elsewhere, taken-here, turns_at-elsewhere}
-use Rattle.laws.proofs.Walk.{is_released, agrees_outbound, is_acquired, Finds, answer-machine, replies-machine, release-machine, cooled, turned_by, awakes}
+use Rattle.laws.proofs.Walk.{is_released, agrees_outbound, is_acquired, Finds, answer-machine, replies-machine, release-machine, turned_by, awakes}
 use Rattle.laws.proofs.WholeMoves.{stands-shaped, greeting-live}
 use Rattle.laws.proofs.Shapes.{greeting-unnegotiated}
 

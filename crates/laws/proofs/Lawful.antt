@@ -1,11 +1,10 @@
 -- The moves of a part of a step: each keeps a law, no connection whose handshake is done is gone without one, and nobody
 -- comes up without one.
-use Rattle.std.proofs.Common.{ℕ, ◌+◌, ◌%◌, ◌≡◌, ◌≤◌, Bool, true, false, ◌==◌, nat_lt, if◌then◌else◌, arith, List, [], ◌∷◌, ◌++◌, Some, is_some, refl, sym, ap, ◌∙◌, subst}
-use Rattle.laws.proofs.Words.{cond_both, false≢true}
-use Rattle.laws.specs.Words.{AllByRecursion, same_address, Action, CloseCause, Unused, Overwritten, Facts, Phase, Negotiated, Closing, Peer, has_id, is_live, live_phase, is_negotiated, is_negotiated_phase, Machine, Entry, entry_at, Effect, Happened, Move, promoted, shared, ended, nothing_more, tells, then_do, as_move, peer_at, peer_changes, peer_fails, peer_succeeds, note_of_coming, peer_comes, Addr, new_peer, entry_of, entered, Added, New, owing, sends_as_initiator, with_entry, without_entry, entry_turns, entry_goes, is_missed, lost, lost_by, ending, is_used, Warm, written_alive, failed_peer}
-use Rattle.peer_book.specs.Book.{peer_at as peer_in}
+use Rattle.std.proofs.Common.{ℕ, ◌+◌, ◌%◌, ◌≡◌, ◌≤◌, Bool, true, false, ◌==◌, nat_lt, if◌then◌else◌, arith, List, [], ◌∷◌, ◌++◌, Some, refl, sym, ap, ◌∙◌, subst}
+use Rattle.laws.proofs.Words.{false≢true}
+use Rattle.laws.specs.Words.{AllByRecursion, same_address, Action, CloseCause, Unused, Overwritten, Facts, Phase, Negotiated, Closing, Peer, has_id, is_live, live_phase, is_negotiated, is_negotiated_phase, Machine, Entry, entry_at, Effect, Happened, Move, promoted, shared, ended, nothing_more, tells, then_do, as_move, peer_at, peer_changes, peer_succeeds, note_of_coming, peer_comes, Addr, new_peer, entry_of, entered, Added, New, owing, sends_as_initiator, with_entry, without_entry, entry_turns, entry_goes, lost, lost_by, ending, is_used, Warm, written_alive}
 use Rattle.warm_messages.specs.declared.alive.Alive.TheVariants.{Ask}
-use Rattle.laws.specs.AtMoves.{OutOfBackOff, WithinTargets, IsPrunedRightly, is_failure, FailsWhere, OnEntry, ForCause, IsLawful, is_up_connection, is_up, is_hot_peer, is_asked_connection, is_hot_or_asked, is_known, promotes, activates, shares}
+use Rattle.laws.specs.AtMoves.{OutOfBackOff, WithinTargets, IsPrunedRightly, is_failure, FailsWhere, OnEntry, ForCause, IsLawful, is_up_connection, is_up, is_asked_connection, is_hot_or_asked, is_known, promotes, activates, shares}
 use Rattle.laws.specs.Parts.{RisesBy}
 use Rattle.laws.specs.Sound.{IsOrderly}
 use Rattle.laws.specs.Stages.{stage_of_phase, stage_of, stage_at, stage_ended, IsLateCause}
@@ -90,10 +89,7 @@ pub record Obeys (Law : Move → Type 0) (before : Machine) (effect : Effect) : 
 
 pub obeys_then : (Law : Move → Type 0) (m : Machine) (first : Effect) (next : Machine → Effect) → Obeys Law m first → Obeys Law first.machine (next first.machine) →
     Obeys Law m (then_do first next)
-obeys_then Law m first next one two = record {
-  lawful = all-appended Law first.moves (next first.machine).moves one.lawful two.lawful;
-  accounted = accounts_then m first next one.accounted two.accounted;
-}
+obeys_then Law m first next one two = grind (arith, all-appended Law first.moves (next first.machine).moves one.lawful two.lawful, accounts_then m first next one.accounted two.accounted)
 
 -- what makes no move, leaves the connections, and lets nobody come up
 pub record IsQuiet (before : Machine) (effect : Effect) : Type 0 where
@@ -112,13 +108,8 @@ quiet-obeys Law m effect q = record { lawful = quiet-lawful Law effect q.moves; 
 -- what is neither a connection nor a peer is no matter of either
 pub elsewhere-quiet : (m : Machine) (effect : Effect) → effect.moves ≡ [] → effect.machine.connections ≡ m.connections → effect.machine.peers ≡ m.peers →
     effect.machine.next_id ≡ m.next_id → are_mute effect.actions ≡ true → IsQuiet m effect
-elsewhere-quiet m effect none connections peers next_id silent = record {
-  moves = none;
-  connections = connections;
-  hot = λ addr hot. subst (λ ps. is_hot_peer (peer_in addr ps) ≡ true) peers hot;
-  known = λ addr known. subst (λ ps. is_some (peer_in addr ps) ≡ true) peers known;
-  told = told_unchanged m effect (mute effect.actions silent) none (record { connections = connections; peers = peers; next_id = next_id });
-}
+elsewhere-quiet m effect none connections peers next_id silent =
+    grind (arith, told_unchanged m effect (mute effect.actions silent) none (record { connections = connections; peers = peers; next_id = next_id }), mute effect.actions silent)
 
 -- what is only sent
 pub tells-quiet : (actions : List Action) (m : Machine) → are_mute actions ≡ true → IsQuiet m (tells actions m)
@@ -128,28 +119,15 @@ pub obeys_nothing : (Law : Move → Type 0) (m : Machine) → Obeys Law m (nothi
 obeys_nothing Law m = quiet-obeys Law m (nothing_more m) (tells-quiet [] m refl)
 
 pub quiet_then : (m : Machine) (first : Effect) (next : Machine → Effect) → IsQuiet m first → IsQuiet first.machine (next first.machine) → IsQuiet m (then_do first next)
-quiet_then m first next one two = record {
-  moves = ap (λ ms. ms ++ (next first.machine).moves) one.moves ∙ two.moves;
-  connections = two.connections ∙ one.connections;
-  hot = λ addr h. one.hot addr (two.hot addr h);
-  known = λ addr h. one.known addr (two.known addr h);
-  told = told_then m first next one.told two.told;
-}
+quiet_then m first next one two = grind (arith, told_then m first next one.told two.told)
 
 -- a peer changes, and does not become hot
 pub changes-quiet : (a : Addr) (change : Peer → Peer) (m : Machine) → IsCooling change → IsQuiet m (peer_changes a change m)
-changes-quiet a change m cools = record {
-  moves = turns_at-moves (peer_at a m) change m;
-  connections = turns_at-connections (peer_at a m) change m;
-  hot = changed-hot a change m cools;
-  known = changed-known a change m cools.addr;
-  told = changes-told a change m cools.addr;
-}
+changes-quiet a change m cools =
+    grind (arith, turns_at-moves (peer_at a m) change m, turns_at-connections (peer_at a m) change m, changed-hot a change m cools, changed-known a change m cools.addr, changes-told a change m cools.addr)
 
 pub lost-quiet : (f : Facts) (m : Machine) → IsQuiet m (lost f m)
-lost-quiet f m = cond_both (is_missed f) (peer_fails f.addr m) (nothing_more m) (λ effect. IsQuiet m effect)
-    (λ missed. changes-quiet f.addr (failed_peer m.now m.settings.backoff) m (record { addr = λ p. refl; hot = λ p hot. absurd (false≢true hot) }))
-    (λ other. tells-quiet [] m refl)
+lost-quiet f m = grind (arith, tells-quiet [] m refl, changes-quiet)
 
 pub lost_by-quiet : (cause : CloseCause) (f : Facts) (m : Machine) → IsQuiet m (lost_by cause f m)
 lost_by-quiet Overwritten f m = tells-quiet [] m refl
@@ -172,26 +150,11 @@ pub comes-machine : (big : Bool) (addr : Addr) (m : Machine) → (peer_comes big
 comes-machine big addr m = note-machine (entry_of addr m.peers) addr (record m { peers = entered (new_peer big addr) m.peers })
 
 pub comes-providing : (big : Bool) (addr : Addr) (m : Machine) → IsProviding m (peer_comes big addr m)
-comes-providing big addr m = record {
-  moves = note-moves (entry_of addr m.peers) addr (record m { peers = entered (new_peer big addr) m.peers });
-  connections = ap (λ n. n.connections) (comes-machine big addr m);
-  hot = subst (StaysDown is_hot m) (sym (comes-machine big addr m)) (entered-hot big addr m);
-  told = peer_comes-told big addr m;
-}
+comes-providing big addr m = grind (arith, comes-machine, is_hot, entered-hot, peer_comes-told, note-moves)
 
 -- as a move
 pub shared-accounts : (big : Bool) (addr : Addr) (m : Machine) → Accounts m (as_move (shared addr) m (peer_comes big addr m))
-shared-accounts big addr m =
-    let effect : Effect = peer_comes big addr m in
-    let provides : IsProviding m effect = comes-providing big addr m in
-    let connected : NoneConnected m effect.machine = same-connected m effect.machine provides.connections in
-    record {
-      promotions = rises_nowhere is_up promotes m (as_move (shared addr) m effect) connected.up;
-      activations = rises_nowhere is_hot_or_asked activates m (as_move (shared addr) m effect) (hot_or_asked-down m effect.machine provides.hot connected.asked);
-      arrivals = rises_said is_known shares (shared addr) m effect
-          (λ b other known. entered-known big addr b m other (subst (λ n. is_known b n ≡ true) (comes-machine big addr m) known));
-      told = told_move (shared addr) m effect refl refl provides.told;
-    }
+shared-accounts big addr m = grind (arith, comes-providing, comes-machine, same-connected, rises_nowhere, hot_or_asked-down, rises_said, entered-known, told_move)
 
 -- ---- a connection turns or goes
 
@@ -308,10 +271,7 @@ allowed_within move allowed within = record { back_off = allowed.back_off; targe
 -- the part as a whole is a move, where it is quiet by itself
 pub as_move-obeys : (Law : Move → Type 0) (happened : Happened) (m : Machine) (effect : Effect) → effect.moves ≡ [] →
     Law (record { happened = happened; before = m; after = effect.machine }) → Accounts m (as_move happened m effect) → Obeys Law m (as_move happened m effect)
-as_move-obeys Law happened m effect none law accounted =
-    let move : Move = record { happened = happened; before = m; after = effect.machine } in
-    let moves : (as_move happened m effect).moves ≡ move ∷ [] = ap (λ ms. ms ++ move ∷ []) none in
-    record { lawful = subst (AllByRecursion Law) (sym moves) (law, tt); accounted = accounted }
+as_move-obeys Law happened m effect none law accounted = grind arith
 
 -- a promotion that gives out no id is no dial
 reuse-told : (a : Addr) (m : Machine) (effect : Effect) → effect.machine.next_id ≡ m.next_id → IsTold m effect → IsTold m (as_move (promoted a) m effect)

@@ -1,6 +1,6 @@
 -- A responder that started runs.
-use Rattle.std.proofs.Common.{ℕ, ◌≡◌, true, find, Option, Some, None, refl, sym, ap, ◌∙◌, arith}
-use Rattle.laws.specs.Words.{unwrap_or, Cid, Facts, choice_of, awakened, has_responder, has_id, runs, with_entry, without_entry, candidates_in, trim, awake, ending, on_entry, Machine, Entry, entry_at, Pruned}
+use Rattle.std.proofs.Common.{ℕ, ◌≡◌, true, Some, refl, ap, ◌∙◌, arith}
+use Rattle.laws.specs.Words.{Facts, awakened, has_responder, runs, with_entry, awake, Machine, Entry, entry_at}
 use Rattle.laws.proofs.Moments.{turned-found as turned-into}
 use Rattle.laws.proofs.Walk.{trim-found}
 

@@ -1,7 +1,7 @@
 -- Who comes up in a part of a step: one is used or on its way to it, is hot or asked to become so, or is known.
-use Rattle.std.proofs.Common.{ℕ, ◌≡◌, Bool, true, false, cond, ◌||◌, if◌then◌else◌, List, [], ◌∷◌, ◌++◌, find, Option, Some, None, is_some, refl, sym, ap, ◌∙◌, subst}
+use Rattle.std.proofs.Common.{ℕ, ◌≡◌, Bool, true, false, cond, ◌||◌, if◌then◌else◌, List, [], ◌∷◌, ◌++◌, find, Option, Some, None, is_some, refl, sym, ap, ◌∙◌, subst, arith}
 use Rattle.laws.proofs.Words.{both_ways, false≢true, or_left, or_right, list_any-append}
-use Rattle.laws.specs.Words.{option_map, list_any, same_address, Addr, Peer, is_live, is_live_at, without_peer, new_peer, entered, Machine, Entry, live_entry_at, Effect, Happened, Move, then_do, as_move, peer_at, peer_changes, with_entry, without_entry}
+use Rattle.laws.specs.Words.{option_map, list_any, same_address, Addr, Peer, is_live, is_live_at, without_peer, new_peer, entered, Machine, Entry, live_entry_at, Effect, Happened, then_do, as_move, peer_at, peer_changes, with_entry, without_entry}
 use Rattle.peer_book.specs.Book.{peer_at as peer_in, with_new as with_new_in}
 use Rattle.laws.specs.AtMoves.{is_up_connection, is_up, is_hot_peer, is_asked_connection, is_hot_or_asked, is_known}
 use Rattle.laws.specs.Parts.{RisesBy}
@@ -18,17 +18,7 @@ use Rattle.laws.proofs.Cases.{by_bool, by_option}
 
 pub rises_by_then : (is : Addr → Machine → Bool) (says : Addr → Happened → Bool) (m : Machine) (first : Effect) (next : Machine → Effect) → RisesBy is says m first →
     RisesBy is says first.machine (next first.machine) → RisesBy is says m (then_do first next)
-rises_by_then is says m first next one two addr h =
-    let second : Effect = next first.machine in
-    let early : Bool = list_any (λ move. says addr move.happened) first.moves in
-    let late : Bool = list_any (λ move. says addr move.happened) second.moves in
-    subst (λ b. (is addr m || b) ≡ true) (sym (list_any-append (λ move. says addr move.happened) first.moves second.moves))
-    (by_first (is addr first.machine) (is addr m) early late (one addr) (two addr h))
-  where
-    by_first : (b before early late : Bool) → (b ≡ true → (before || early) ≡ true) → (b || late) ≡ true → (before || (early || late)) ≡ true
-    by_first true false false late one two = absurd (false≢true (one refl))
-    by_first false false false late one two = two
-    by_first b before early late one two = refl
+rises_by_then is says m first next one two addr h = grind (arith, list_any-append)
 
 pub more : (a b c : Bool) → (a || b) ≡ true → (a || (b || c)) ≡ true
 more true b c is = refl
@@ -37,27 +27,17 @@ more false b c is = or_left b c is
 -- more moves say more
 pub rises_by_move : (is : Addr → Machine → Bool) (says : Addr → Happened → Bool) (happened : Happened) (m : Machine) (effect : Effect) → RisesBy is says m effect →
     RisesBy is says m (as_move happened m effect)
-rises_by_move is says happened m effect rises addr h =
-    let move : Move = record { happened = happened; before = m; after = effect.machine } in
-    subst (λ b. (is addr m || b) ≡ true) (sym (list_any-append (λ x. says addr x.happened) effect.moves (move ∷ [])))
-    (more (is addr m) (list_any (λ x. says addr x.happened) effect.moves) (list_any (λ x. says addr x.happened) (move ∷ [])) (rises addr h))
+rises_by_move is says happened m effect rises addr h = grind (arith, list_any-append, more)
 
 -- a move says of itself
 said : (says : Addr → Happened → Bool) (happened : Happened) (m : Machine) (effect : Effect) (addr : Addr) → says addr happened ≡ true →
     list_any (λ move. says addr move.happened) (as_move happened m effect).moves ≡ true
-said says happened m effect addr h =
-    let move : Move = record { happened = happened; before = m; after = effect.machine } in
-    list_any-append (λ x. says addr x.happened) effect.moves (move ∷ [])
-    ∙ or_right (list_any (λ x. says addr x.happened) effect.moves) (says addr happened || false) (or_left (says addr happened) false h)
+said says happened m effect addr h = grind (arith, list_any-append)
 
 -- only whom the move is of comes up
 pub rises_said : (is : Addr → Machine → Bool) (says : Addr → Happened → Bool) (happened : Happened) (m : Machine) (effect : Effect) →
     ((addr : Addr) → says addr happened ≡ false → is addr effect.machine ≡ true → is addr m ≡ true) → RisesBy is says m (as_move happened m effect)
-rises_said is says happened m effect others addr h = by_bool (says addr happened)
-    (λ b. (is addr m || list_any (λ move. says addr move.happened) (as_move happened m effect).moves) ≡ true)
-    (λ e.
-    or_right (is addr m) (list_any (λ move. says addr move.happened) (as_move happened m effect).moves) (said says happened m effect addr e))
-    (λ e. or_left (is addr m) (list_any (λ move. says addr move.happened) (as_move happened m effect).moves) (others addr e h))
+rises_said is says happened m effect others addr h = grind (arith, said)
 
 -- ---- nobody comes up
 
@@ -93,16 +73,10 @@ abbrev pub of_connection : (Option Entry → Bool) → Addr → Machine → Bool
 of_connection q addr m = q (live_entry_at addr m)
 
 pub same-connected : (m n : Machine) → n.connections ≡ m.connections → NoneConnected m n
-same-connected m n same = record {
-  up = λ addr h. ap (λ es. is_up_connection (find (λ e. is_live_at addr e.facts) es)) (sym same) ∙ h;
-  asked = λ addr h. ap (λ es. is_asked_connection (find (λ e. is_live_at addr e.facts) es)) (sym same) ∙ h;
-}
+same-connected m n same = grind arith
 
 pub connected_then : (m n o : Machine) → NoneConnected m n → NoneConnected n o → NoneConnected m o
-connected_then m n o one two = record {
-  up = λ addr h. one.up addr (two.up addr h);
-  asked = λ addr h. one.asked addr (two.asked addr h);
-}
+connected_then m n o one two = grind arith
 
 -- the new one is up, or asked, only where the old one was
 pub record IsNoHigher (old new : Entry) : Type 0 where
@@ -211,11 +185,7 @@ pub entered-known : (big : Bool) (a b : Addr) (m : Machine) → same_address a b
 entered-known big a b m other h = entered-down is_some (new_peer big a) m.peers b (λ same. absurd (both_ways (same_address a b) other same)) h
 
 taken-down : (q : Option Peer → Bool) → q None ≡ false → (a : Addr) (ps : List Peer) (b : Addr) → q (peer_in b (without_peer a ps)) ≡ true → q (peer_in b ps) ≡ true
-taken-down q none a ps b = by_bool (same_address b a) (λ c. q (peer_in b (without_peer a ps)) ≡ true → q (peer_in b ps) ≡ true)
-    (λ e is.
-    let here : peer_in b (without_peer a ps) ≡ None = subst (λ x. peer_in x (without_peer a ps) ≡ None) (sym (same_address-true b a e)) (taken-here a ps) in
-    absurd (false≢true (sym none ∙ ap q (sym here) ∙ is)))
-    (λ e is. ap q (sym (taken-elsewhere a b ps e)) ∙ is)
+taken-down q none a ps b = grind (arith, taken-here a ps, same_address-true, taken-elsewhere)
 
 -- a peer goes
 pub taken-hot : (a : Addr) (m : Machine) → StaysDown is_hot m (record m { peers = without_peer a m.peers })

@@ -1,7 +1,7 @@
 -- What is said is said to who is open, and behind the close of a connection nothing.
-use Rattle.std.proofs.Common.{ℕ, ◌≤◌, ◌≡◌, arith, flat_map, find, if◌then◌else◌, Bool, true, false, ◌==◌, List, [], ◌∷◌, ◌++◌, Option, Some, None, refl, sym, ap, ◌∙◌, subst, eqb-true, eq-eqb, nat_lt}
+use Rattle.std.proofs.Common.{ℕ, ◌≤◌, ◌≡◌, arith, flat_map, if◌then◌else◌, Bool, true, false, ◌==◌, List, [], ◌∷◌, ◌++◌, Some, refl, sym, ap, ◌∙◌, subst, eqb-true, eq-eqb, nat_lt}
 use Rattle.laws.proofs.Words.{cond_both, both_ways, and_parts, false≢true, flat_map-append, filter-append}
-use Rattle.laws.specs.Words.{AllByRecursion, Action, Close, Send, State, Forget, Addr, Peer, Undecoded, CloseCause, Unused, Order, Promote, is_acquirable, is_live, is_live_at, same_address, has_id, Effect, nothing_more, tells, then_do, entry_turns, entry_goes, with_entry, without_entry, ending, vanishes, closing_entry, lost, lost_by, acquire, dial, carries_out, promoted_at, peer_changes, peer_comes, peer_is_ordinary, peer_at, Machine, Entry, entry_at, live_entry_at}
+use Rattle.laws.specs.Words.{AllByRecursion, Action, Close, Send, Forget, Addr, Peer, CloseCause, Unused, Order, Promote, is_acquirable, is_live, is_live_at, same_address, Effect, nothing_more, then_do, entry_turns, entry_goes, with_entry, without_entry, ending, vanishes, closing_entry, lost_by, acquire, dial, carries_out, promoted_at, peer_changes, peer_comes, peer_at, Machine, Entry, entry_at, live_entry_at}
 use Rattle.laws.specs.Acts.{Act, carries, ends_dial, handles_item, does}
 use Rattle.laws.specs.InActions.{End, closed_by, closes_in, ends_in}
 use Rattle.laws.specs.OpenEnds.{is_open_at}
@@ -18,9 +18,8 @@ use Rattle.laws.proofs.Moments.{ending-none}
 use Rattle.laws.proofs.OpenEnds.{live-stage}
 use Rattle.laws.proofs.Sends.{sends-right}
 use Rattle.laws.proofs.Silent.{sent-deaf, turns-silent, changed-silent, comes-silent, ending-silent, vanishes-silent}
-use Rattle.laws.proofs.Telling.{ended-over}
 use Rattle.laws.proofs.ToldMoves.{turns_at-connections}
-use Rattle.laws.proofs.Walk.{Finds, Scope, Stands, StandsOpen, on_those, Turn, turned_by, turned-cid, shuts, Kept, scope_of, walk, acquire-walk, orders-walk, allows-order, orderly-finds}
+use Rattle.laws.proofs.Walk.{Finds, Scope, on_those, turned_by, turned-cid, shuts, Kept, scope_of, walk, acquire-walk, orders-walk, orderly-finds}
 use Rattle.laws.proofs.Cases.{by_option}
 
 -- ---- actions one behind another

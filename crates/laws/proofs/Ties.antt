@@ -1,7 +1,7 @@
 -- What ties a peer to the live connection of its address, through each change of either.
-use Rattle.std.proofs.Common.{ℕ, ◌≡◌, Bool, true, false, cond, not, ◌&&◌, if◌then◌else◌, List, [], ◌∷◌, ◌++◌, get_or, find, set, Option, Some, None, is_some, refl, sym, ap, ◌∙◌, subst}
+use Rattle.std.proofs.Common.{ℕ, ◌≡◌, Bool, true, false, cond, not, ◌&&◌, if◌then◌else◌, List, [], ◌∷◌, ◌++◌, get_or, find, set, Option, Some, None, is_some, refl, sym, ap, ◌∙◌, subst, arith}
 use Rattle.laws.proofs.Words.{both_ways, false≢true, and_parts, and_from, false_from_ne_true, find-append}
-use Rattle.laws.specs.Words.{same_address, address_below, Addr, Facts, Peer, is_live, is_live_at, is_pending, has_address, without_peer, new_peer, entered, Machine, Entry, live_entry_at, peer_at, turns_at, peer_changes, reply_on, with_entry, without_entry, option_or}
+use Rattle.laws.specs.Words.{same_address, address_below, Addr, Facts, Peer, is_live, is_live_at, has_address, without_peer, new_peer, entered, Machine, Entry, live_entry_at, peer_at, turns_at, peer_changes, with_entry, without_entry, option_or}
 use Rattle.peer_book.specs.Book.{peer_at as peer_in, with_peer as with_peer_in, with_new as with_new_in}
 use Rattle.laws.specs.Laws.{LiveAddressesDistinct}
 use Rattle.laws.specs.Sound.{IsOrderly}
@@ -9,7 +9,7 @@ use Rattle.laws.specs.Steady.{TiedBy, IsTied}
 use Rattle.laws.proofs.Addresses.{same_address-self, same_address-true}
 use Rattle.laws.proofs.Entries.{TurnsInto, turned-connections, gone-connections, with_new}
 use Rattle.laws.proofs.Finds.{find-set_other, find-set_here, find-set_gone, find-remove_other, find-remove_here}
-use Rattle.laws.proofs.Lists.{StandsAt, OnePasses, FoundIn, find_some, find_only}
+use Rattle.laws.proofs.Lists.{StandsAt, OnePasses, find_some, find_only}
 use Rattle.laws.proofs.PeersApart.{same_turned, entered-cases}
 use Rattle.laws.proofs.Cases.{by_bool, by_option}
 
@@ -56,10 +56,7 @@ live_of new = if is_live new.facts then Some new else None
 
 pub turned_elsewhere : (m : Machine) (e new : Entry) (k : ℕ) → IsOrderly m → StandsAt m.connections k e → TurnsInto e new → (b : Addr) →
     same_address b e.facts.addr ≡ false → live_entry_at b (with_entry new m) ≡ live_entry_at b m
-turned_elsewhere m e new k h s t b other =
-    ap (find (λ x. is_live_at b x.facts)) (turned-connections m e new k h s t)
-    ∙ find-set_other (λ x. is_live_at b x.facts) new e m.connections k s (not_at e.facts b other)
-    (not_at new.facts b (subst (λ a. same_address b a ≡ false) (sym t.same_addr) other))
+turned_elsewhere m e new k h s t b other = grind (arith, turned-connections m e new k h s t, find-set_other, not_at)
 
 stays_dead : (e new : Entry) → TurnsInto e new → is_live e.facts ≡ false → is_live new.facts ≡ false
 stays_dead e new t dead = false_from_ne_true (is_live new.facts) (λ live. both_ways (is_live e.facts) dead (t.live live))
@@ -84,22 +81,15 @@ turned_here m e new k h s t live =
 
 pub gone_elsewhere : (m : Machine) (e : Entry) (k : ℕ) → IsOrderly m → StandsAt m.connections k e → (b : Addr) →
     same_address b e.facts.addr ≡ false → live_entry_at b (without_entry e.facts.cid.0 m) ≡ live_entry_at b m
-gone_elsewhere m e k h s b other =
-    ap (find (λ x. is_live_at b x.facts)) (gone-connections m e k h s)
-    ∙ find-remove_other (λ x. is_live_at b x.facts) e m.connections k s (not_at e.facts b other)
+gone_elsewhere m e k h s b other = grind (arith, gone-connections m e k h s, find-remove_other, not_at)
 
 pub gone_dead : (m : Machine) (e : Entry) (k : ℕ) → IsOrderly m → StandsAt m.connections k e → is_live e.facts ≡ false →
     (b : Addr) → live_entry_at b (without_entry e.facts.cid.0 m) ≡ live_entry_at b m
-gone_dead m e k h s dead b =
-    ap (find (λ x. is_live_at b x.facts)) (gone-connections m e k h s)
-    ∙ find-remove_other (λ x. is_live_at b x.facts) e m.connections k s (not_live e.facts b dead)
+gone_dead m e k h s dead b = grind (arith, gone-connections m e k h s, find-remove_other (λ x. is_live_at b x.facts) e m.connections k s (not_live e.facts b dead), not_live e.facts b dead)
 
 pub gone_here : (m : Machine) (e : Entry) (k : ℕ) → IsOrderly m → StandsAt m.connections k e → is_live e.facts ≡ true →
     live_entry_at e.facts.addr (without_entry e.facts.cid.0 m) ≡ None
-gone_here m e k h s live =
-    ap (find (λ x. is_live_at e.facts.addr x.facts)) (gone-connections m e k h s)
-    ∙ find-remove_here (λ x. is_live_at e.facts.addr x.facts) e m.connections k (live_one e.facts.addr m h.addresses) s
-    (and_from (same_address e.facts.addr e.facts.addr) (is_live e.facts) (same_address-self e.facts.addr) live)
+gone_here m e k h s live = grind (arith, gone-connections, find-remove_here, live_one, same_address-self)
 
 -- ---- the peer of an address
 
@@ -122,9 +112,7 @@ peer_here new p (q ∷ ps) found = by_bool (has_address new.addr q)
     (λ e f later. rw (same_address-self new.addr) refl) (λ e f later. rw e (later f)) found (peer_here new p ps)
 
 pub found-addr : (a : Addr) (ps : List Peer) (p : Peer) → peer_in a ps ≡ Some p → p.addr ≡ a
-found-addr a ps p found =
-    let at : FoundIn (has_address a) ps p = find_some (has_address a) ps p found in
-    same_address-true p.addr a at.passes
+found-addr a ps p found = grind (arith, find_some (has_address a) ps p found, same_address-true)
 
 -- ---- changes
 
@@ -205,13 +193,7 @@ none_there (Some p) h = absurd (false≢true (sym h))
 
 -- a cold one, which is not asked anything
 new-tied : (big : Bool) (addr : Addr) (now : ℕ) (o : Option Entry) → TiedBy now None o → TiedBy now (Some (new_peer big addr)) o
-new-tied big addr now None tie = refl
-new-tied big addr now (Some e) tie = record {
-  established = sym tie.unused;
-  in_use = λ local. absurd (both_ways e.facts.local tie.unused local);
-  on_its_way = λ pending. absurd (both_ways (is_pending e.facts) tie.not_dialed pending);
-  asked = λ asked. absurd (both_ways (is_some (reply_on 2 e)) tie.not_asked asked);
-}
+new-tied big addr now o tie = grind arith
 
 pub comes-ties : (big : Bool) (addr : Addr) (m : Machine) → IsTied m → IsTied (record m { peers = entered (new_peer big addr) m.peers })
 comes-ties big addr m ties = entered-cases new m.peers (λ ps. IsTied (record m { peers = ps })) ties

@@ -1,7 +1,7 @@
 -- What each change of a connection or a peer tells.
 use Rattle.std.proofs.Common.{ℕ, ◌+◌, ◌≡◌, ◌≤◌, Bool, true, false, not, ◌==◌, nat_lt, nat_le, if◌then◌else◌, List, [], ◌∷◌, ◌++◌, find, get_or, set, remove, length, flat_map, Option, Some, None, is_some, refl, sym, ap, ◌∙◌, subst, arith, eqb-true, eq-eqb, ne_eqb}
-use Rattle.laws.proofs.Words.{cond_both, both_ways, false≢true, All-weaker}
-use Rattle.laws.specs.Words.{option_map, name_of, name_in_phase, name_in_use, name_place, same_name, has_id, is_duplex, some_runs, same_address, Action, Admit, Dial, Close, State, CloseCause, PeerNote, StateName, ReservedOutbound, UnnegotiatedInbound, UnnegotiatedOutbound, Duplex, OutboundUni, OutboundDupTicking, OutboundDupExpired, Inbound, InboundIdle, OutboundIdle, Terminating, Terminated, Addr, Cid, Facts, Grace, Off, Phase, Greeting, Negotiated, Provenance, FromRemote, FromLocal, Peer, Temp, Cold, Warm, Hot, new_peer, entered_by, most_peers, same_temp, Added, New, Present, Full, with_entry, without_entry, entry_turns, entry_comes, entry_goes, Effect, Happened, Move, promoted, as_move, Machine, Entry, entry_at, peer_at, note_of, turns_at, peer_changes, note_of_coming, peer_comes, peer_goes}
+use Rattle.laws.proofs.Words.{cond_both, both_ways, All-weaker}
+use Rattle.laws.specs.Words.{option_map, name_of, name_place, same_name, has_id, same_address, Action, Admit, Dial, Close, State, CloseCause, PeerNote, StateName, ReservedOutbound, UnnegotiatedInbound, UnnegotiatedOutbound, Duplex, OutboundUni, OutboundDupTicking, OutboundDupExpired, Inbound, InboundIdle, OutboundIdle, Terminating, Terminated, Addr, Cid, Facts, Peer, Temp, Cold, new_peer, entered_by, most_peers, same_temp, Added, New, Present, Full, with_entry, without_entry, entry_turns, entry_comes, entry_goes, Effect, Happened, Move, promoted, as_move, Machine, Entry, entry_at, peer_at, note_of, turns_at, peer_changes, note_of_coming, peer_comes, peer_goes}
 use Rattle.net_base.specs.declared.action.Action.TheVariants.{Peer as TellPeer}
 use Rattle.laws.specs.Words.note
 use Rattle.peer_book.specs.Book.{peer_at as peer_in}
@@ -34,21 +34,7 @@ same_name-true a b h =
 
 -- no entry is called terminated
 stands-named : (f : Facts) → same_name (name_of f) Terminated ≡ false
-stands-named f = by_phase f.phase
-  where
-    by_grace : (l r d : Bool) (g : Grace) → same_name (name_in_use l r d g) Terminated ≡ false
-    by_grace true false true Off = refl
-    by_grace false false d Off = refl
-    by_grace l r d g = refl
-
-    by_side : (p : Provenance) (until : ℕ) → same_name (name_in_phase (Greeting until) (record f { provenance = p })) Terminated ≡ false
-    by_side FromRemote until = refl
-    by_side FromLocal until = refl
-
-    by_phase : (p : Phase) → same_name (name_in_phase p f) Terminated ≡ false
-    by_phase (Greeting until) = by_side f.provenance until
-    by_phase Negotiated = by_grace f.local (some_runs f.running) (is_duplex f) f.grace
-    by_phase other = refl
+stands-named f = grind arith
 
 named-stands : (f : Facts) → same_name Terminated (name_of f) ≡ false
 named-stands f = ne_eqb 11 (name_place (name_of f)) (λ same. both_ways (same_name (name_of f) Terminated) (stands-named f) (eq-eqb (name_place (name_of f)) 11 (sym same)))
@@ -152,12 +138,7 @@ goes-told m e k h s =
         (no_name cid e.facts.cid Terminated other) (omega arith)
 
 pub goes-stage : (m : Machine) (e : Entry) (k : ℕ) → IsOrderly m → StandsAt m.connections k e → stage_at e.facts.cid.0 (without_entry e.facts.cid.0 m) ≡ 5
-goes-stage m e k h s =
-    let own : has_id e.facts.cid.0 e.facts ≡ true = has_own_id e in
-    let gone : entry_at e.facts.cid.0 (without_entry e.facts.cid.0 m) ≡ None =
-    ap (find (λ x. has_id e.facts.cid.0 x.facts)) (gone-connections m e k h s)
-    ∙ find-remove_here (λ x. has_id e.facts.cid.0 x.facts) e m.connections k (one_has_id e.facts.cid.0 m.connections h.ids_rise) s own in
-    ap (λ o. stage_of o (nat_lt e.facts.cid.0 m.next_id)) gone ∙ ap (λ b. if b then 5 else 0) (is_given m e k e.facts.cid.0 h s own)
+goes-stage m e k h s = grind (arith, has_own_id, gone-connections, one_has_id, find-remove_here, is_given)
 
 -- ---- a connection is ended
 
@@ -195,12 +176,7 @@ ended-told happened cid cause m inner is_end no_dial h none early late may =
 -- ---- a connection comes
 
 given_later : (o : Option Entry) (cid next : ℕ) → stage_of o (nat_lt cid next) ≤ stage_of o (nat_lt cid (next + 1))
-given_later None cid next = by_bool (nat_lt cid next) (λ b. (if b then 5 else 0) ≤ (if nat_lt cid (next + 1) then 5 else 0))
-    (λ is.
-    let later : nat_lt cid (next + 1) ≡ true = grind (arith, is) in
-    subst (λ c. 5 ≤ (if c then 5 else 0)) (sym later) (omega arith))
-    (λ is. omega arith)
-given_later (Some e) cid next = omega arith
+given_later o cid next = grind arith
 
 -- its id is nobody's yet
 none-yet : (m : Machine) → IsOrderly m → entry_at m.next_id m ≡ None
@@ -261,10 +237,7 @@ dials-told m new addr h id here =
 -- ---- a peer changes
 
 pub is_temp : (t u : Temp) → same_temp t u ≡ true → t ≡ u
-is_temp Cold Cold h = refl
-is_temp Warm Warm h = refl
-is_temp Hot Hot h = refl
-is_temp t u h = absurd (false≢true h)
+is_temp t u h = grind arith
 
 noted_temp : (t : Temp) → noted (note_of t) ≡ Some t
 noted_temp Cold = refl
@@ -372,11 +345,4 @@ peer_comes-told big a m =
 
 -- of a peer that is there
 pub peer_goes-told : (a : Addr) (m : Machine) → is_some (peer_at a m) ≡ true → IsTold m (peer_goes a m)
-peer_goes-told a m there =
-    noting-told a m (peer_goes a m) (turn-noting false a note.Forgotten) refl refl refl
-    (one_note a a (temp_at a m) (temp_at a (peer_goes a m).machine) note.Forgotten (same_address-self a) (was (peer_at a m) there) (ap temp_of (sym (taken-here a m.peers))))
-    (λ b other. no_note b a note.Forgotten (same_turned b a other)) (λ b other. taken-elsewhere a b m.peers other)
-  where
-    was : (o : Option Peer) → is_some o ≡ true → is_change (temp_of o) note.Forgotten ≡ true
-    was None none = none
-    was (Some p) is = refl
+peer_goes-told a m there = grind (arith, turn-noting, same_address-self, taken-here, noting-told, one_note, no_note, same_turned, taken-elsewhere)

@@ -1,7 +1,7 @@
 -- Where more connections are counted than the hard limit, one of them goes.
-use Rattle.std.proofs.Common.{ℕ, suc, ◌+◌, ◌≤◌, ◌<◌, ◌≡◌, Bool, true, false, not, ◌&&◌, ◌||◌, nat_le, if◌then◌else◌, List, [], ◌∷◌, ◌++◌, map, filter_map, find, Option, Some, None, refl, sym, ap, ◌∙◌, subst, arith, eq-eqb, leb-true, leb-false, All}
+use Rattle.std.proofs.Common.{ℕ, ◌+◌, ◌≤◌, ◌<◌, ◌≡◌, Bool, true, false, not, nat_le, if◌then◌else◌, List, [], ◌∷◌, ◌++◌, map, filter_map, find, Option, Some, None, refl, sym, ap, ◌∙◌, subst, arith, eq-eqb, leb-true, leb-false, All}
 use Rattle.laws.proofs.Words.{cond_both, both_ways, and_parts, not-true, All-head, All-tail, All-from_recursion, recursion_from_All, first_to_go-law}
-use Rattle.laws.specs.Words.{AllByRecursion, cons_option, option_map, unwrap_or, Settings, CloseCause, Pruned, Cid, Facts, IsFirstToGo, is_candidate, rank_of_candidate, goes_before, first_of, first_to_go, Candidate, is_counted, has_id, is_live, live_phase, is_greeting, is_greeting_phase, is_negotiated, is_negotiated_phase, is_outbound, Phase, Closing, Machine, Entry, counted_in, entry_at, Effect, Happened, Move, nothing_more, then_do, as_move, for_each, on_entry, without_entry, lost, ending, candidate_of, candidates_in, trim}
+use Rattle.laws.specs.Words.{AllByRecursion, cons_option, option_map, unwrap_or, Settings, CloseCause, Pruned, Cid, Facts, IsFirstToGo, is_candidate, rank_of_candidate, goes_before, first_of, first_to_go, Candidate, is_counted, has_id, is_live, is_negotiated, Machine, Entry, counted_in, entry_at, Effect, Happened, Move, nothing_more, then_do, as_move, for_each, on_entry, without_entry, lost, ending, candidate_of, candidates_in, trim}
 use Rattle.laws.specs.AtMoves.{as_candidate, IsDueToGo, IsPrunedRightly, IsLawful}
 use Rattle.laws.specs.Laws.{LocalsAreOrdinary}
 use Rattle.laws.specs.Sound.{IsOrderly}
@@ -36,12 +36,7 @@ pub record Goes (es : List Entry) (c : Candidate) : Type 0 where
   pub facts : IsCandidateAs entry.facts c
 
 goes_next : (e : Entry) (es : List Entry) (c : Candidate) → Goes es c → Goes (e ∷ es) c
-goes_next e es c g = record {
-  entry = g.entry;
-  place = suc g.place;
-  stands = stands_next e g.entry es g.place g.stands;
-  facts = g.facts;
-}
+goes_next e es c g = grind (arith, stands_next e g.entry es g.place g.stands)
 
 abbrev candidates_among : List Entry → List Candidate
 candidates_among es = filter_map candidate_of (map (λ e. e.facts) es)
@@ -143,15 +138,7 @@ nothing-trimmed Law m within h = keeps-trimmed Law m (nothing_more m) within (ke
 
 -- what is counted stands open
 counted-live : (f : Facts) → is_counted f ≡ true → is_live f ≡ true
-counted-live f h = by_phase f.phase refl
-  where
-    uncounted : is_greeting f ≡ false → is_negotiated f ≡ false → is_counted f ≡ false
-    uncounted g n = rw (g, n) (by_bool (not (is_outbound f)) (λ b. ((b && false) || false || false) ≡ false)
-        (λ is. refl) (λ is. refl))
-
-    by_phase : (p : Phase) → f.phase ≡ p → is_live f ≡ true
-    by_phase (Closing until) is = absurd (both_ways (is_counted f) (uncounted (ap is_greeting_phase is) (ap is_negotiated_phase is)) h)
-    by_phase other is = ap live_phase is
+counted-live f h = grind arith
 
 pruned-trims : (m : Machine) (e : Entry) (k : ℕ) → IsOrdered m → StandsAt m.connections k e → IsDueToGo e m → Trimmed IsLawful m (ending Pruned e m)
 pruned-trims m e k h s due =
@@ -177,8 +164,7 @@ pub record HasMoved (moved : Cid) (m : Machine) : Type 0 where
 pub found_by_id : (m : Machine) (e : Entry) (k : ℕ) (cid : Cid) → IsOrderly m → StandsAt m.connections k e → e.facts.cid ≡ cid →
     entry_at cid.0 m ≡ Some e
 found_by_id m e k cid h s same =
-    find_only (λ x. has_id cid.0 x.facts) e m.connections k (one_has_id cid.0 m.connections h.ids_rise) s
-    (eq-eqb e.facts.cid.0 cid.0 (ap (λ c. c.0) same))
+    grind (arith, find_only (λ x. has_id cid.0 x.facts) e m.connections k (one_has_id cid.0 m.connections h.ids_rise) s (eq-eqb e.facts.cid.0 cid.0 (ap (λ c. c.0) same)), one_has_id cid.0 m.connections h.ids_rise)
 
 pub trim-trims : (moved : Cid) (m : Machine) → IsOrdered m → counted_in m ≤ m.settings.hard + 1 →
     (m.settings.hard < counted_in m → HasMoved moved m) → Trimmed IsLawful m (trim moved m)
@@ -206,9 +192,7 @@ trim-trims moved m h most over = cond_both (nat_le (counted_in m) m.settings.har
 
 pruned-used : (q : Entry → Bool) → ((x : Entry) → x.facts.local ≡ false → q x ≡ false) → (m : Machine) (e : Entry) (k : ℕ) → IsOrderly m →
     StandsAt m.connections k e → e.facts.local ≡ false → find q (ending Pruned e m).machine.connections ≡ find q m.connections
-pruned-used q only m e k h s unused =
-    ap (find q) (lost-connections e.facts (without_entry e.facts.cid.0 m) ∙ gone-connections m e k h s)
-    ∙ find-remove_other q e m.connections k s (only e unused)
+pruned-used q only m e k h s unused = grind (arith, lost-connections e.facts (without_entry e.facts.cid.0 m), gone-connections m e k h s, find-remove_other q e m.connections k s (only e unused))
 
 pub trim-used : (q : Entry → Bool) → ((x : Entry) → x.facts.local ≡ false → q x ≡ false) → (moved : Cid) (m : Machine) (e : Entry) (k : ℕ) → IsOrderly m →
     StandsAt m.connections k e → e.facts.cid ≡ moved → e.facts.local ≡ false → find q (trim moved m).machine.connections ≡ find q m.connections
@@ -279,6 +263,4 @@ for_each_that-trimmed Law P act each (x ∷ xs) m h within all =
 -- every move keeps another law that the first one and a second one give
 pub trimmed_both : (P Q R : Move → Type 0) → ((move : Move) → P move → Q move → R move) → (m : Machine) (effect : Effect) → Trimmed P m effect →
     AllByRecursion Q effect.moves → Trimmed R m effect
-trimmed_both P Q R gives m effect h also =
-    let lawful : IsTied m → AllByRecursion R effect.moves = λ ties. all-both P Q R gives effect.moves (h.lawful ties) also in
-    assumption
+trimmed_both P Q R gives m effect h also = grind (arith, all-both)

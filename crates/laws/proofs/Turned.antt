@@ -1,19 +1,18 @@
 -- What becomes of the connection that a part of an event is about.
-use Rattle.std.proofs.Common.{ℕ, ◌+◌, ◌<◌, ◌≡◌, Bool, true, false, ◌&&◌, ◌==◌, if◌then◌else◌, [], ◌∷◌, find, Option, Some, None, Result, Ok, Err, refl, sym, ap, ◌∙◌, subst, eq-eqb, eqb-true}
-use Rattle.laws.proofs.Words.{cond_both, both_ways, and_parts, and_from, false≢true, false_from_ne_true}
-use Rattle.laws.specs.Words.{option_map, connected, agreed_inbound, agreed_outbound, acquired, released, awakened, idled, expired, has_id, is_acquirable, is_dialing, is_live, is_live_at, agreed_sharing, runs, Order, Ask, Forget, Promote, Release, Activate, Deactivate, verdict_of, answer_of, Verdict, message_of, Message, kind_of, CutFault, Item, same_address, Close, CloseCause, Unused, Refused, Query, Fault, FaultKind, Protocol, HandshakeWait, ReplyWait, Addr, Phase, Greeting, Negotiated, Cold, Warm, Kind, watched, Seen, with_entry, entry_turns, ending, vanishes, closing_entry, acquire, trim, release, awake, idle, dial, dial_opens, dial_fails, fires_as, Effect, unused, nothing_more, tells, then_do, as_move, on_entry, closes, dialed, promoted_at, is_used_at, on_used, asks_peer, activates, deactivates, carries_out, role_of, judged, decided, greets, Machine, Entry, entry_at, live_entry_at, own_info, peer_at, owing, paid, handled_in, handled, faulted, stops_if, serves, begins, brings, Facts, is_used, on_connection}
+use Rattle.std.proofs.Common.{ℕ, ◌+◌, ◌<◌, ◌≡◌, Bool, true, false, ◌&&◌, ◌==◌, if◌then◌else◌, find, Option, Some, None, Result, Ok, Err, refl, sym, ap, ◌∙◌, subst, eqb-true, arith}
+use Rattle.laws.proofs.Words.{cond_both, both_ways, and_parts, false≢true, false_from_ne_true}
+use Rattle.laws.specs.Words.{connected, agreed_inbound, agreed_outbound, acquired, released, awakened, idled, expired, has_id, is_acquirable, is_dialing, is_live, is_live_at, agreed_sharing, runs, Order, Ask, Forget, Promote, Release, Activate, Deactivate, verdict_of, answer_of, Verdict, message_of, Message, kind_of, CutFault, Item, same_address, CloseCause, Refused, Query, Fault, FaultKind, Protocol, Addr, Phase, Greeting, Negotiated, Cold, Warm, Kind, watched, Seen, with_entry, ending, vanishes, closing_entry, acquire, trim, release, awake, dial, dial_opens, dial_fails, fires_as, Effect, nothing_more, then_do, on_entry, closes, dialed, promoted_at, is_used_at, on_used, asks_peer, activates, deactivates, carries_out, role_of, judged, decided, greets, Machine, Entry, entry_at, live_entry_at, own_info, peer_at, owing, paid, handled_in, handled, faulted, serves, begins, brings, Facts, is_used, on_connection}
 use Rattle.laws.specs.Words.verdict
 use Rattle.laws.specs.Words.kind
 use Rattle.laws.specs.Acts.{Act, fires_one, carries, ends_dial, stores, handles_item, ends_stream, is_closed, does}
-use Rattle.laws.specs.Sound.{HasGivenId}
 use Rattle.laws.specs.Untouched.{address_of, is_with, is_about, IsAsItWas}
-use Rattle.laws.specs.Steady.{IsShaped, IsOrdered}
+use Rattle.laws.specs.Steady.{IsOrdered}
 use Rattle.laws.proofs.Addresses.{same_address-true}
 use Rattle.laws.proofs.CarriedOut.{used_one}
 use Rattle.laws.proofs.Goes.{vanishes-none}
 use Rattle.laws.proofs.Walk.{own_id, StandsOpen, answer-machine, replies-machine, Finds, Stands, found-stands, Scope, taken, on_those, trim-walk, brings-walk, acquire-walk, release-walk, asks_peer-walk, activates-walk, begins-walk, is_released, turned_by, cooled, release-machine}
 use Rattle.laws.proofs.Lawful.{stands-found}
-use Rattle.laws.proofs.Lists.{FoundIn, find_some, find_only, All-stands}
+use Rattle.laws.proofs.Lists.{FoundIn, find_some, find_only}
 use Rattle.laws.proofs.Moments.{gone-none, ending-none, turned-found}
 use Rattle.laws.proofs.Shapes.{local-negotiated, can_acquire}
 use Rattle.laws.proofs.Ties.{live_here}
@@ -83,9 +82,7 @@ stands-becomes : (e : Entry) (m : Machine) → entry_at e.facts.cid.0 m ≡ Some
 stands-becomes e m is = subst (IsAsItWas (Some e)) (sym is) refl
 
 turned-becomes : (e new : Entry) (m : Machine) → new.facts.cid ≡ e.facts.cid → Becomes (Some new) e.facts.cid.0 (with_entry new m)
-turned-becomes e new m same = subst (IsAsItWas (Some new)) (sym (turned-found e new m same)) (by_option (entry_at e.facts.cid.0 m)
-    (λ o. IsAsItWas (Some new) (option_map (λ x. new) o))
-    (λ is. tt) (λ f is. refl))
+turned-becomes e new m same = grind (arith, turned-found e new m same)
 
 pub ending-becomes : (o : Option Entry) (cause : CloseCause) (e : Entry) (m : Machine) → Becomes o e.facts.cid.0 (ending cause e m).machine
 ending-becomes o cause e m = gone-becomes o e.facts.cid.0 (ending cause e m).machine (ending-none cause e m)
@@ -102,10 +99,7 @@ then-becomes o cid m n given h w = was_then o (entry_at cid m) (entry_at cid n) 
 
 -- it comes into use
 used_so : (f : Facts) (e : Entry) (m : Machine) → f.cid ≡ e.facts.cid → Becomes (Some (taken f e m)) e.facts.cid.0 (is_used f e m).machine
-used_so f e m same =
-    let n : Machine = with_entry (taken f e m) m in
-    subst (λ es. IsAsItWas (Some (taken f e m)) (find (λ x. has_id e.facts.cid.0 x.facts) es))
-    (sym (turns_at-connections (peer_at f.addr n) (λ p. record p { temp = Warm; failures = 0 }) n)) (turned-becomes e (taken f e m) m same)
+used_so f e m same = grind (arith, taken f e m, turned-becomes e (taken f e m) m same, turns_at-connections)
 
 -- what is done with this one alone
 abbrev alone : Entry → Scope
@@ -120,14 +114,7 @@ open_alone e m is live = record { may = refl; found = is; own = own_id e.facts.c
 -- ---- a deadline
 
 fires-becomes : (sort : Kind) (e : Entry) (m : Machine) → Becomes (turned_by_kind sort e m) e.facts.cid.0 (fires_as sort e m).machine
-fires-becomes kind.Handshake e m = ending-becomes None (Fault HandshakeWait) e m
-fires-becomes kind.Grace e m = by_bool e.facts.local
-    (λ b. Becomes (Some (if b then record e { facts = expired e.facts } else closing_entry m e)) e.facts.cid.0
-    (if b then entry_turns e (record e { facts = expired e.facts }) m
-    else as_move (unused e.facts.cid.0) m (then_do (tells (Close e.facts.cid Unused ∷ []) m) (entry_turns e (closing_entry m e)))).machine)
-    (λ is. turned-becomes e (record e { facts = expired e.facts }) m refl) (λ is. turned-becomes e (closing_entry m e) m refl)
-fires-becomes kind.TimeWait e m = gone-becomes None e.facts.cid.0 (fires_as kind.TimeWait e m).machine (gone-none e.facts.cid.0 m)
-fires-becomes other e m = ending-becomes None (Fault ReplyWait) e m
+fires-becomes sort e m = grind (arith, turned-becomes, gone-becomes, gone-none, ending-becomes)
 
 dialed-becomes : (opened : Bool) (e : Entry) (m : Machine) → entry_at e.facts.cid.0 m ≡ Some e →
     Becomes (Some (if is_dialing e.facts && opened then record e { facts = connected (m.now + m.settings.handshake) e.facts } else e)) e.facts.cid.0 (dialed opened e m).machine
@@ -168,12 +155,7 @@ greets-becomes item e m = greets-cases item e m (λ effect. Becomes (turned_by_m
 
 serves-becomes : (seen : Seen) (protocol : ℕ) (e : Entry) (m : Machine) → entry_at e.facts.cid.0 m ≡ Some e →
     Becomes (Some (stopped seen.done protocol (m.now + m.settings.idle) e)) e.facts.cid.0 (serves seen protocol e m).machine
-serves-becomes seen protocol e m is =
-    subst (λ n. Becomes (Some (stopped seen.done protocol (m.now + m.settings.idle) e)) e.facts.cid.0 (stops_if seen.done protocol e n).machine) (sym (replies-machine seen.reply protocol e m))
-    (by_bool seen.done
-    (λ b. Becomes (Some (stopped b protocol (m.now + m.settings.idle) e)) e.facts.cid.0 (if b then idle protocol e m else nothing_more m).machine)
-    (λ done. turned-becomes e (record e { facts = idled protocol (m.now + m.settings.idle) e.facts }) m refl)
-    (λ more. stands-becomes e m is))
+serves-becomes seen protocol e m is = grind (arith, replies-machine seen.reply protocol e m, stands-becomes e m is, turned-becomes)
 
 pub begins-becomes : (protocol : ℕ) (e : Entry) (m : Machine) → e.facts.cid.0 < m.next_id → entry_at e.facts.cid.0 m ≡ Some e → Becomes (Some (begun protocol e)) e.facts.cid.0 (begins protocol e m).machine
 begins-becomes protocol e m given is =
@@ -225,9 +207,7 @@ record Ordered (addr : Addr) (m : Machine) (e : Entry) : Type 0 where
   here : same_address e.facts.addr addr ≡ true
 
 pub given_id : (m : Machine) (e : Entry) → IsOrdered m → entry_at e.facts.cid.0 m ≡ Some e → e.facts.cid.0 < m.next_id
-given_id m e h is =
-    let place : FoundIn (λ x. has_id e.facts.cid.0 x.facts) m.connections e = find_some (λ x. has_id e.facts.cid.0 x.facts) m.connections e is in
-    (All-stands (HasGivenId m.next_id) m.connections place.place e place.stands h.orderly.ids_given).1
+given_id m e h is = grind (arith, find_some (λ x. has_id e.facts.cid.0 x.facts) m.connections e is)
 
 -- where it has no test that another has, what changes that one leaves it
 other-becomes : (test : Entry → Bool) (m n : Machine) (e g : Entry) → IsOrdered m → entry_at e.facts.cid.0 m ≡ Some e → entry_at g.facts.cid.0 m ≡ Some g → test e ≡ false → test g ≡ true →
@@ -244,12 +224,7 @@ other-becomes test m n e g h is at fails passes w =
 
 -- the one in use is the one that an order finds
 used-found : (addr : Addr) (m : Machine) (e : Entry) → Ordered addr m e → e.facts.local ≡ true → find (is_used_at addr) m.connections ≡ Some e
-used-found addr m e o local =
-    let place : FoundIn (λ x. has_id e.facts.cid.0 x.facts) m.connections e = find_some (λ x. has_id e.facts.cid.0 x.facts) m.connections e o.is in
-    let shape : IsShaped e.facts = All-stands (λ x. IsShaped x.facts) m.connections place.place e place.stands o.ordered.formed.shaped in
-    let live : is_live e.facts ≡ true = negotiated-live e.facts.phase (local-negotiated e.facts shape local) in
-    find_only (is_used_at addr) e m.connections place.place (used_one addr m o.ordered.orderly) place.stands
-    (and_from (is_live_at addr e.facts) e.facts.local (and_from (same_address e.facts.addr addr) (is_live e.facts) o.here live) local)
+used-found addr m e o local = grind (arith, find_some (λ x. has_id e.facts.cid.0 x.facts) m.connections e o.is, used_one addr m o.ordered.orderly, negotiated-live, local-negotiated, find_only)
 
 used-becomes : (addr : Addr) (act : Entry → Machine → Effect) (new : Entry) (m : Machine) (e : Entry) → Ordered addr m e →
     ((g : Entry) → StandsOpen (alone g) g m → Waits (alone g) m (act g m).machine) → Becomes (Some new) e.facts.cid.0 (act e m).machine →
@@ -319,11 +294,7 @@ orders-become (Deactivate addr) m e o = by_option (find (is_used_at addr) m.conn
 
 own-becomes : (o : Option Entry) (own cid : ℕ) (act : Entry → Machine → Effect) (m : Machine) (e : Entry) → (own == cid) ≡ true → entry_at cid m ≡ Some e →
     (entry_at e.facts.cid.0 m ≡ Some e → Becomes o e.facts.cid.0 (act e m).machine) → Becomes o cid (on_entry (entry_at own m) act m).machine
-own-becomes o own cid act m e same is each =
-    let mine : e.facts.cid.0 ≡ cid = eqb-true e.facts.cid.0 cid (find_some (λ x. has_id cid x.facts) m.connections e is).passes in
-    subst (λ c. Becomes o cid (on_entry (entry_at c m) act m).machine) (sym (eqb-true own cid same))
-    (subst (λ x. Becomes o cid (on_entry x act m).machine) (sym is)
-    (subst (λ c. Becomes o c (act e m).machine) mine (each (subst (λ c. entry_at c m ≡ Some e) (sym mine) is))))
+own-becomes o own cid act m e same is each = grind (arith, find_some (λ x. has_id cid x.facts) m.connections e is)
 
 -- The connection that a part is about is gone, or has turned into that one.
 pub part-becomes : (act : Act) (m : Machine) → Finds act m → (cid : ℕ) (e : Entry) → is_about act m cid ≡ true → entry_at cid m ≡ Some e → Becomes (turned act e m) cid (does act m).machine

@@ -1,5 +1,5 @@
 -- How long is waited, and what is left as it was, through each change of a connection.
-use Rattle.std.proofs.Common.{ℕ, ◌+◌, ◌<◌, ◌≤◌, ◌≡◌, ◌⊎◌, Bool, true, false, cond, not, ◌==◌, nat_lt, if◌then◌else◌, List, [], ◌∷◌, ◌++◌, map, filter, find, Option, Some, None, refl, sym, ap, ◌∙◌, subst, inl, inr, arith, eqb-true, eq-eqb, ne_eqb}
+use Rattle.std.proofs.Common.{ℕ, ◌+◌, ◌<◌, ◌≤◌, ◌≡◌, ◌⊎◌, Bool, true, false, cond, not, ◌==◌, nat_lt, if◌then◌else◌, List, [], ◌∷◌, ◌++◌, filter, find, Option, Some, None, refl, sym, ap, ◌∙◌, subst, inl, inr, arith, eqb-true}
 use Rattle.laws.proofs.Words.{find-append, both_ways}
 use Rattle.laws.specs.Words.{option_map, option_or, has_id, nothing_undecoded, Peer, Kind, with_entry, without_entry, Machine, Entry, Owed, entry_at, reply_on, owing, paid}
 use Rattle.laws.specs.CarriedOut.{IsUnset}

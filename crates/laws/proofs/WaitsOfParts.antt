@@ -1,5 +1,5 @@
 -- How long is waited, what is set, and what is left as it was, in each part of an event.
-use Rattle.std.proofs.Common.{ℕ, ◌+◌, ◌%◌, ◌≡◌, ◌⊎◌, false, ◌||◌, find, Option, Some, None, refl, sym, ap, subst, inl, inr}
+use Rattle.std.proofs.Common.{ℕ, ◌+◌, ◌%◌, ◌≡◌, ◌⊎◌, false, ◌||◌, find, Option, Some, None, refl, sym, subst, inl, inr, arith}
 use Rattle.laws.proofs.Words.{cond_both, both_ways}
 use Rattle.laws.specs.Words.{dialing, accepted, agreed_inbound, agreed_outbound, acquired, released, awakened, idled, expired, has_id, is_for_remote, some_runs, with_responder, failed_peer, Undecoded, CloseCause, Overwritten, Addr, Facts, Off, ForRemote, ForLocal, Negotiated, Peer, Kind, entry_of, entered, new_peer, without_entry, is_missed, lost, lost_by, ending, vanishes, closing_entry, dial, Effect, nothing_more, admitted, Machine, Entry, fresh_entry, entry_at, peer_at, turns_at, peer_fails, peer_goes, owing, paid, Order}
 use Rattle.laws.specs.Words.kind
@@ -8,7 +8,7 @@ use Rattle.laws.specs.CarriedOut.{IsUnset, IsSet}
 use Rattle.laws.specs.Parts.{IsNext}
 use Rattle.laws.specs.Steady.{IsOrdered}
 use Rattle.laws.specs.Untouched.{may_close, IsAsItWas, KeepsBytes, LeavesRest}
-use Rattle.laws.specs.Waits.{until_of, until_in, until_at, until_unused, length_of, IsWait, WaitsRight}
+use Rattle.laws.specs.Waits.{until_of, until_unused, length_of, IsWait, WaitsRight}
 use Rattle.laws.proofs.Keeping.{note-machine}
 use Rattle.laws.proofs.RootsAsked.{roots-set}
 use Rattle.laws.proofs.Waits.{Waits, TurnsRight, kept, waits_then, waits_peers, waits_nothing, waits_turned, waits_gone, waits_come, owing-right, paid-right, was_same, bytes_same}
@@ -22,25 +22,16 @@ same-right m e kind = kept (m.now + length_of kind m.settings) (until_of kind e)
 -- the phase stays, and what is owed
 graced-right : (m : Machine) (e : Entry) (f : Facts) → f.phase ≡ e.facts.phase → IsWait (m.now + m.settings.idle) (until_unused e.facts.grace) (until_unused f.grace) →
     TurnsRight m e (record e { facts = f })
-graced-right m e f phase grace kind.Handshake = subst (λ p. IsWait (m.now + m.settings.handshake) (until_of kind.Handshake e) (until_of kind.Handshake (record e { facts = record f { phase = p } }))) (sym phase) (kept (m.now + m.settings.handshake) (until_of kind.Handshake e))
-graced-right m e f phase grace kind.Grace = grace
-graced-right m e f phase grace kind.TimeWait = subst (λ p. IsWait (m.now + m.settings.timewait) (until_of kind.TimeWait e) (until_of kind.TimeWait (record e { facts = record f { phase = p } }))) (sym phase) (kept (m.now + m.settings.timewait) (until_of kind.TimeWait e))
-graced-right m e f phase grace other = kept (m.now + m.settings.reply) (until_of other e)
+graced-right m e f phase grace sort = grind (arith, kept)
 
 -- nothing of it waits but what does by its phase
 negotiated-right : (m : Machine) (e : Entry) (f : Facts) → f.phase ≡ Negotiated → IsWait (m.now + m.settings.idle) (until_unused e.facts.grace) (until_unused f.grace) →
     TurnsRight m e (record e { facts = f })
-negotiated-right m e f phase grace kind.Handshake = subst (λ p. IsWait (m.now + m.settings.handshake) (until_of kind.Handshake e) (until_of kind.Handshake (record e { facts = record f { phase = p } }))) (sym phase) tt
-negotiated-right m e f phase grace kind.Grace = grace
-negotiated-right m e f phase grace kind.TimeWait = subst (λ p. IsWait (m.now + m.settings.timewait) (until_of kind.TimeWait e) (until_of kind.TimeWait (record e { facts = record f { phase = p } }))) (sym phase) tt
-negotiated-right m e f phase grace other = kept (m.now + m.settings.reply) (until_of other e)
+negotiated-right m e f phase grace sort = grind (arith, kept)
 
 -- a reply comes to be owed besides
 owing_too-right : (protocol asked : ℕ) (m : Machine) (e : Entry) (f : Facts) → TurnsRight m e (record e { facts = f }) → TurnsRight m e (owing protocol asked m (record e { facts = f }))
-owing_too-right protocol asked m e f right kind.Reply2 = owing-right 2 protocol asked m (record e { facts = f })
-owing_too-right protocol asked m e f right kind.Reply8 = owing-right 8 protocol asked m (record e { facts = f })
-owing_too-right protocol asked m e f right kind.Reply10 = owing-right 10 protocol asked m (record e { facts = f })
-owing_too-right protocol asked m e f right other = right other
+owing_too-right protocol asked m e f right sort = grind (arith, owing-right)
 
 paid_off-right : (protocol : ℕ) (m : Machine) (e : Entry) → TurnsRight m e (paid protocol e)
 paid_off-right protocol m e kind.Reply2 = paid-right 2 protocol (m.now + m.settings.reply) e
@@ -49,16 +40,10 @@ paid_off-right protocol m e kind.Reply10 = paid-right 10 protocol (m.now + m.set
 paid_off-right protocol m e other = same-right m e other
 
 opens-right : (m : Machine) (e : Entry) → TurnsRight m e (turned_by opens e m)
-opens-right m e kind.Handshake = inr refl
-opens-right m e kind.Grace = kept (m.now + m.settings.idle) (until_of kind.Grace e)
-opens-right m e kind.TimeWait = tt
-opens-right m e other = kept (m.now + m.settings.reply) (until_of other e)
+opens-right m e sort = grind (arith, kept)
 
 closing-right : (m : Machine) (e : Entry) → TurnsRight m e (closing_entry m e)
-closing-right m e kind.Handshake = tt
-closing-right m e kind.Grace = tt
-closing-right m e kind.TimeWait = inr refl
-closing-right m e other = kept (m.now + m.settings.reply) (until_of other e)
+closing-right m e sort = grind (arith, kept)
 
 decodes-right : (m : Machine) (e : Entry) (undecoded : Undecoded) → TurnsRight m e (record e { undecoded = undecoded })
 decodes-right m e undecoded kind.Handshake = same-right m e kind.Handshake
@@ -149,13 +134,7 @@ module _ (scope : Scope) where
 
 -- either no connection changes, or nothing is set
 pub sets_or_changes : (act : Act) (m : Machine) → ((does act m).machine.connections ≡ m.connections) ⊎ IsChange act
-sets_or_changes (shows t) m = inl refl
-sets_or_changes asks_for_roots m = inl (ap (λ n. n.connections) (roots-set m))
-sets_or_changes (sets_targets targets) m = inl refl
-sets_or_changes (sets_big_targets targets) m = inl refl
-sets_or_changes (sets_groups groups) m = inl refl
-sets_or_changes (sets_roots roots) m = inl refl
-sets_or_changes other m = inr tt
+sets_or_changes act m = grind (arith, roots-set m)
 
 act-waits : (act : Act) (m : Machine) → IsChange act → IsNext act m → Finds act m → Waits (scope_of act m) m (does act m).machine
 act-waits act m change next found = walk act m (Waited (scope_of act m)) change next found (waits-kept (scope_of act m))
@@ -163,17 +142,10 @@ act-waits act m change next found = walk act m (Waited (scope_of act m)) change 
 -- ---- what follows
 
 right : (scope : Scope) (m n : Machine) → Waits scope m n → WaitsRight m n
-right scope m n h kind cid =
-    subst (λ s. IsWait (n.now + length_of kind s) (until_at kind cid m) (until_at kind cid n)) (sym h.unset.settings)
-    (subst (λ t. IsWait (t + length_of kind m.settings) (until_at kind cid m) (until_at kind cid n)) (sym h.unset.now) ((h.each cid).waits kind))
+right scope m n h kind cid = grind arith
 
 pub waits-right : (act : Act) (m : Machine) → IsNext act m → Finds act m → WaitsRight m (does act m).machine
-waits-right act m next found = elim (sets_or_changes act m) [
-  | inl same ↦ let n : Machine = (does act m).machine in λ kind cid.
-      subst (λ es. IsWait (n.now + length_of kind n.settings) (until_at kind cid m) (until_in kind (find (λ e. has_id cid e.facts) es))) (sym same)
-      (kept (n.now + length_of kind n.settings) (until_at kind cid m))
-  | inr change ↦ right (scope_of act m) m (does act m).machine (act-waits act m change next found)
-]
+waits-right act m next found = grind (arith, sets_or_changes act m, scope_of act m, kept, right, act-waits)
 
 pub leaves-rest : (act : Act) (m : Machine) → IsNext act m → Finds act m → LeavesRest act m (does act m).machine
 leaves-rest act m next found = elim (sets_or_changes act m) [

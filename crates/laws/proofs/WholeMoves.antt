@@ -1,7 +1,7 @@
 -- The moves of connections in the whole machine: what each keeps, and by how much it may raise the counted ones.
 use Rattle.std.proofs.Common.{ℕ, ◌+◌, ◌%◌, ◌≤◌, ◌≡◌, Bool, true, false, ◌&&◌, ◌||◌, nat_le, ◌==◌, if◌then◌else◌, count_by, Option, Some, None, is_some, subst, refl, sym, ap, ◌∙◌, arith}
-use Rattle.laws.proofs.Words.{cond_both, both_ways, and_parts, and_from, false≢true, false_from_ne_true, and_right}
-use Rattle.laws.specs.Words.{CloseCause, Overwritten, Agreed, Cid, Facts, Undecoded, Grace, Off, ForRemote, ForLocal, Phase, Dialing, Greeting, Negotiated, Closing, Peer, Warm, Version, settings_tests, failed_peer, connected, agreed_inbound, agreed_outbound, acquired, released, awakened, idled, agreed_sharing, is_pending, opening_phase, is_negotiated, is_negotiated_phase, is_dialing, is_dialing_phase, is_greeting, is_greeting_phase, live_phase, is_outbound, is_for_remote, some_runs, is_acquirable, is_live, Machine, Entry, live_entry_at, nothing_more, peer_at, peer_fails, peer_succeeds, reply_on, owing, paid, is_owed_on, with_entry, without_entry, is_missed, lost, lost_by, ending, vanishes, is_used, is_agreed_inbound, is_agreed_outbound, acquire, idle, grace_deadlines, Effect}
+use Rattle.laws.proofs.Words.{cond_both, both_ways, and_from, false≢true}
+use Rattle.laws.specs.Words.{CloseCause, Overwritten, Agreed, Cid, Facts, Undecoded, Grace, Off, ForRemote, ForLocal, Phase, Dialing, Greeting, Negotiated, Peer, Warm, Version, settings_tests, failed_peer, connected, agreed_inbound, agreed_outbound, acquired, released, awakened, idled, agreed_sharing, is_pending, opening_phase, is_negotiated, is_negotiated_phase, is_dialing, is_dialing_phase, is_greeting, is_greeting_phase, live_phase, is_outbound, is_for_remote, some_runs, is_acquirable, is_live, Machine, Entry, live_entry_at, nothing_more, peer_at, peer_fails, peer_succeeds, reply_on, owing, paid, is_owed_on, with_entry, without_entry, is_missed, lost, lost_by, ending, vanishes, is_used, is_agreed_inbound, is_agreed_outbound, acquire, idle, grace_deadlines, Effect}
 use Rattle.laws.specs.AtMoves.{IsReady}
 use Rattle.laws.specs.Steady.{IsShaped, IsUnused, AreTied, TiedBy, IsTied, IsOwing, IsOrdered}
 use Rattle.laws.proofs.Counts.{counted_of, late_of, one_if_counted, is_late, grace_late_of}
@@ -40,25 +40,12 @@ pub stands-owing : (m : Machine) (e : Entry) (k : ℕ) → IsOrdered m → Stand
 stands-owing m e k h s = All-stands IsOwing m.connections k e s h.formed.owing
 
 pub pending-unnegotiated : (f : Facts) → is_pending f ≡ true → is_negotiated f ≡ false
-pending-unnegotiated f h = by_phase f.phase refl (and_parts (is_outbound f) (opening_phase f.phase) h).1
-  where
-    by_phase : (p : Phase) → f.phase ≡ p → opening_phase f.phase ≡ true → is_negotiated f ≡ false
-    by_phase Negotiated is opening = absurd (both_ways (opening_phase f.phase) (ap opening_phase is) opening)
-    by_phase other is opening = ap is_negotiated_phase is
+pending-unnegotiated f h = grind arith
 
 -- ---- a connection goes
 
 missed-live : (f : Facts) → IsShaped f → is_missed f ≡ true → is_live f ≡ true
-missed-live f shape missed = by_phase f.phase refl
-  where
-    dead : is_negotiated f ≡ false → is_pending f ≡ false → is_missed f ≡ false
-    dead unused idle = rw ((shape.unused unused).local, idle) refl
-
-    by_phase : (p : Phase) → f.phase ≡ p → is_live f ≡ true
-    by_phase (Closing until) is =
-        absurd (both_ways (is_missed f)
-        (dead (ap is_negotiated_phase is) (and_right (is_outbound f) (opening_phase f.phase) (ap opening_phase is))) missed)
-    by_phase other is = ap live_phase is
+missed-live f shape missed = grind arith
 
 not_missed-unused : (f : Facts) → is_missed f ≡ false → f.local ≡ false
 not_missed-unused f h = by_bool f.local (λ b. (b || is_pending f) ≡ false → b ≡ false)
@@ -119,25 +106,12 @@ pub record IsAlike (old new : Entry) : Type 0 where
   pub asked : is_some (reply_on 2 new) ≡ true → is_some (reply_on 2 old) ≡ true
 
 alike-tied : (now : ℕ) (o : Option Peer) (old new : Entry) → IsAlike old new → TiedBy now o (Some old) → TiedBy now o (Some new)
-alike-tied now None old new a tie = record {
-  unused = a.local ∙ tie.unused;
-  not_dialed = a.pending ∙ tie.not_dialed;
-  not_asked = false_from_ne_true (is_some (reply_on 2 new)) (λ asked. both_ways (is_some (reply_on 2 old)) tie.not_asked (a.asked asked));
-}
-alike-tied now (Some p) old new a tie = record {
-  established = tie.established ∙ sym a.local;
-  in_use = λ local. tie.in_use (sym a.local ∙ local);
-  on_its_way = λ pending. tie.on_its_way (sym a.pending ∙ pending);
-  asked = λ asked. tie.asked (a.asked asked);
-}
+alike-tied now o old new a tie = grind arith
 
 -- one that turns into what is as it was for its peer
 pub alike-keeps : (raised : ℕ) (m : Machine) (e new : Entry) (k : ℕ) → IsOrdered m → StandsAt m.connections k e → TurnsInto e new → IsAlike e new →
     IsShaped new.facts → IsOwing new → counted_of new ≤ counted_of e + raised → late_of m.now new ≤ late_of m.now e → Keeps raised m (with_entry new m)
-alike-keeps raised m e new k h s t a shaped owes more later =
-    moves-keeps raised m (with_entry new m) (turns-moves raised m e new k h s t shaped owes more later)
-    (turned-ties m e new k h.orderly s t
-    (λ live o is tie. subst (λ b. TiedBy m.now o (if b then Some new else None)) (sym (a.live ∙ live)) (alike-tied m.now o e new a tie)))
+alike-keeps raised m e new k h s t a shaped owes more later = grind (arith, turns-moves raised m e new k h s t shaped owes more later, moves-keeps, turned-ties, alike-tied)
 
 pub dialing-live : (p : Phase) → is_dialing_phase p ≡ true → live_phase p ≡ true
 dialing-live Dialing h = refl
