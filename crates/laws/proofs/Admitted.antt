@@ -40,8 +40,7 @@ pending-at : (addr : Addr) (e : Entry) → (same_address e.facts.addr addr && is
 pending-at addr e h = grind (arith, h, pending-live e.facts)
 
 crossing-found : (addr : Addr) (m : Machine) → IsOrderly m → is_crossing addr m ≡ passes_of (λ e. same_address e.facts.addr addr && is_pending e.facts) (live_entry_at addr m)
-crossing-found addr m h =
-    any-found (λ e. is_live_at addr e.facts) (λ e. same_address e.facts.addr addr && is_pending e.facts) (pending-at addr) m.connections (live_one addr m h.addresses)
+crossing-found addr m h = grind (arith, any-found, pending-at, live_one)
 
 present-found : (addr : Addr) (m : Machine) → IsOrderly m → is_present addr m ≡ passes_of (λ e. is_live_at addr e.facts) (live_entry_at addr m)
 present-found addr m h = any-found (λ e. is_live_at addr e.facts) (λ e. is_live_at addr e.facts) (λ e is. is) m.connections (live_one addr m h.addresses)
@@ -74,10 +73,7 @@ away cause m = record { told = refl; admitted = refl; same = refl }
 by_live : (addr : Addr) (m : Machine) → IsOrderly m → (o : Option Entry) → live_entry_at addr m ≡ o →
     ByCause (if is_crossing addr m then (if address_below addr m.settings.own then None else Some Crossed) else (if is_present addr m then Some Present else None))
     addr m (accepted_beside o addr m)
-by_live addr m h None is =
-    let alone : is_crossing addr m ≡ false = crossing-found addr m h ∙ ap (passes_of (λ e. same_address e.facts.addr addr && is_pending e.facts)) is in
-    let absent : is_present addr m ≡ false = present-found addr m h ∙ ap (passes_of (λ e. is_live_at addr e.facts)) is in
-    rw (alone, absent) (let-in addr m h)
+by_live addr m h None is = grind (arith, crossing-found, present-found, let-in)
 by_live addr m h (Some e) is =
     let at = find_some (λ x. is_live_at addr x.facts) m.connections e is in
     let here = (and_parts (same_address e.facts.addr addr) (is_live e.facts) at.passes).0 in
@@ -93,9 +89,4 @@ connects-admits addr m h =
 -- ---- nothing else
 
 pub admits-right : (act : Act) (m : Machine) → IsNext act m → Finds act m → AdmitsRight act m (does act m)
-admits-right (connects addr) m next found = connects-admits addr m found
-admits-right asks_for_roots m next found = record { admitted = asks-silent admitted_by (λ job. refl) m; turned_away = asks-silent turned_away_by (λ job. refl) m }
-admits-right other m next found = record {
-  admitted = part-silent admitted_by admitted-deaf (λ cid bytes. refl) other m tt next found;
-  turned_away = part-silent turned_away_by turned_away-deaf (λ cid bytes. refl) other m tt next found;
-}
+admits-right act m next found = grind (arith, asks-silent, connects-admits, part-silent, admitted-deaf, turned_away-deaf)

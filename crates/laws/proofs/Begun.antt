@@ -23,8 +23,7 @@ use Rattle.laws.proofs.Cases.{by_bool, by_option}
 
 -- who has a grace has done its handshake
 graced-negotiated : (e : Entry) (until : ℕ) → IsShaped e.facts → until_unused e.facts.grace ≡ Some until → is_negotiated e.facts ≡ true
-graced-negotiated e until h waits = by_bool (is_negotiated e.facts) (λ b. b ≡ true)
-    (λ is. refl) (λ is. let never : None ≡ Some until = sym (ap until_unused (h.unused is).grace) ∙ waits in absurd cc)
+graced-negotiated e until h waits = grind arith
 
 expired-waits : (e : Entry) (m : Machine) → is_live e.facts ≡ true → (sort : Kind) →
     until_of sort (record e { facts = expired e.facts }) ≡ wait_fired kind.Grace sort e (record e { facts = expired e.facts }) m
@@ -63,8 +62,7 @@ owes_where-waits false protocol asked e m sort = refl
 released-waits : (e : Entry) (m : Machine) (sort : Kind) →
     until_of sort (record e { facts = released (m.now + m.settings.idle) e.facts })
     ≡ begun_where (not (some_runs e.facts.running || is_for_remote e.facts.grace) && is_kind kind.Grace sort) sort e m
-released-waits e m kind.Grace = by_bool (some_runs e.facts.running || is_for_remote e.facts.grace)
-    (λ b. until_unused (if b then e.facts.grace else ForLocal (m.now + m.settings.idle)) ≡ begun_where (not b && true) kind.Grace e m) (λ is. refl) (λ is. refl)
+released-waits e m kind.Grace = grind arith
 released-waits e m other = rw (and_right (not (some_runs e.facts.running || is_for_remote e.facts.grace)) false refl) refl
 
 taken-waits : (e : Entry) (m : Machine) (sort : Kind) → until_of sort (taken (record e.facts { local = true }) e m) ≡ begun_where (is_reply_on 8 sort) sort e m
@@ -105,9 +103,7 @@ begun-off : (protocol : ℕ) (e : Entry) → IsShaped e.facts → (begun protoco
 begun-off protocol e h = grind (arith, runs-some)
 
 begun-runs : (protocol : ℕ) (e : Entry) → some_runs (awakened protocol e.facts).running ≡ true → some_runs (begun protocol e).facts.running ≡ true
-begun-runs protocol e wakes = by_bool (runs protocol e.facts.running)
-    (λ b. some_runs (if b then e else record e { facts = awakened protocol e.facts }).facts.running ≡ true)
-    (λ is. runs-some protocol e.facts.running is) (λ is. wakes)
+begun-runs protocol e wakes = grind arith
 
 begun-same : (protocol : ℕ) (e : Entry) (sort : Kind) → is_kind kind.Grace sort ≡ false → until_of sort (begun protocol e) ≡ until_of sort e
 begun-same protocol e sort other = grind arith
@@ -152,10 +148,7 @@ requested-waits (Ok seen) item e f m seen_ h is sort =
 
 handled-waits : (p : Phase) (item : Item) (e f : Entry) (m : Machine) → e.facts.phase ≡ p → IsShaped e.facts → turned_by_item p item e m ≡ Some f → (sort : Kind) →
     until_of sort f ≡ wait_handled p item sort e f m
-handled-waits (Greeting until) item e f m at h is sort = message-waits (message_of item.body) e f m unused is sort
-  where
-    unused : e.facts.local ≡ false
-    unused = (h.unused (greeting-unnegotiated e.facts.phase (subst (λ p. is_greeting_phase p ≡ true) (sym at) refl))).local
+handled-waits (Greeting until) item e f m at h is sort = grind (arith, greeting-unnegotiated, message-waits)
 handled-waits Negotiated item e f m at h is sort =
     let seen : Result Seen FaultKind = watched item.id (agreed_sharing e.facts.agreed) item.body in
     by_bool (item.side == 0)
@@ -181,15 +174,10 @@ turned-waits (fires_one d) m next found cid e f own at is sort =
     let h = shaped-at m cid e found at in
     fired-waits d.kind d.at e f m h.0 h.1
     (sym (ap (until_in d.kind) at) ∙ (ap (λ c. until_at d.kind c m) (sym (eqb-true d.cid.0 cid own)) ∙ next.waited)) is sort
-turned-waits (carries order) m next found cid e f own at is sort =
-    let it : turned_by_order order e m ≡ f = cc in ap (until_of sort) (sym it) ∙ ordered-waits order e m sort
-turned-waits (ends_dial own_id opened) m next found cid e f own at is sort =
-    let it : (if is_dialing_phase e.facts.phase && opened then record e { facts = connected (m.now + m.settings.handshake) e.facts } else e) ≡ f = cc in
-    ap (until_of sort) (sym it) ∙ dialed-waits opened e m sort
-turned-waits (stores entry undecoded) m next found cid e f own at is sort =
-    let it : record e { undecoded = undecoded } ≡ f = cc in ap (until_of sort) (sym it) ∙ stored-waits undecoded e sort
-turned-waits (handles_item own_id item) m next found cid e f own at is sort =
-    handled-waits e.facts.phase item e f m refl (shaped-at m cid e found at).0 is sort
+turned-waits (carries order) m next found cid e f own at is sort = grind (arith, turned_by_order, ordered-waits)
+turned-waits (ends_dial own_id opened) m next found cid e f own at is sort = grind (arith, dialed-waits)
+turned-waits (stores entry undecoded) m next found cid e f own at is sort = grind arith
+turned-waits (handles_item own_id item) m next found cid e f own at is sort = grind (arith, handled-waits, shaped-at)
 turned-waits (ends_stream own_id fault) m next found cid e f own at is sort = let it : e ≡ f = cc in ap (until_of sort) (sym it)
 turned-waits (is_closed own_id) m next found cid e f own at is sort = let it : e ≡ f = cc in ap (until_of sort) (sym it)
 turned-waits other m next found cid e f own at is sort = absurd (false≢true own)

@@ -40,9 +40,7 @@ abbrev MeansLate : ℕ → Entry → Deadline → Type 0
 MeansLate now e d = is_late now d ≡ true → LateAs now e d.kind
 
 reply-late : (now : ℕ) (e : Entry) (owed : Owed) → Contains e.owed owed → MeansLate now e (reply_deadline e.facts.cid owed)
-reply-late now e owed among late =
-    let waited : IsLate now e = record { owed = owed; among = among; late = leb-true owed.until now late } in
-    reply_kind-cases (LateAs now e) waited waited waited owed.protocol
+reply-late now e owed among late = grind arith
 
 deadlines_of-late : (now : ℕ) (e : Entry) → All (MeansLate now e) (deadlines_of e)
 deadlines_of-late now e = deadlines-by (MeansLate now e) e (λ until is late. ap is_greeting_phase is) (λ until is late. ap live_phase is)
@@ -108,14 +106,11 @@ wait_over-obeys m e k h s dead =
 
 -- a reply is owed only while the connection is used
 late-live : (m : Machine) (e : Entry) (k : ℕ) → IsOrdered m → StandsAt m.connections k e → IsLate m.now e → is_live e.facts ≡ true
-late-live m e k h s late =
-    negotiated-live e.facts.phase (local-negotiated e.facts (stands-shaped m e k h s) (grind (arith, (stands-owing m e k h s).used, late.among.1)))
+late-live m e k h s late = grind arith
 
 fires_as-obeys : (kind : Kind) (m : Machine) (e : Entry) (k : ℕ) → IsOrdered m → StandsAt m.connections k e → LateAs m.now e kind →
     Obeys IsLawful m (fires_as kind e m)
-fires_as-obeys Handshake m e k h s late =
-    ending-obeys (Fault HandshakeWait) m e k h.orderly s (greeting-live e.facts.phase late)
-    (λ negotiated. tt) tt
+fires_as-obeys Handshake m e k h s late = grind (arith, ending-obeys (Fault HandshakeWait) m e k h.orderly s (greeting-live e.facts.phase late) (λ negotiated. tt) tt, greeting-live e.facts.phase late)
 fires_as-obeys GraceKind m e k h s late = grace_over-obeys m e k h s late
 fires_as-obeys TimeWait m e k h s late = wait_over-obeys m e k h s late
 fires_as-obeys other m e k h s late = ending-obeys (Fault ReplyWait) m e k h.orderly s (late-live m e k h s late) (λ negotiated. tt) tt
@@ -123,11 +118,7 @@ fires_as-obeys other m e k h s late = ending-obeys (Fault ReplyWait) m e k h.ord
 -- ---- all that are due
 
 pub fires-obeys : (d : Deadline) (m : Machine) → IsOrdered m → due m ≡ Some d → Obeys IsLawful m (fires d m)
-fires-obeys d m h is =
-    let next : Due m d = due_of m d h.orderly is in
-    subst (λ o. Obeys IsLawful m (on_entry o (fires_as d.kind) m)) (sym next.found)
-    (fires_as-obeys d.kind m next.owner next.place h next.stands
-    (All-contains (MeansLate m.now next.owner) (deadlines_of next.owner) d (deadlines_of-late m.now next.owner) next.among next.late))
+fires-obeys d m h is = grind (arith, due_of m d h.orderly is, fires_as-obeys, deadlines_of-late)
 
 pub fire_due-obeys : (n : ℕ) (m : Machine) → IsOrdered m → Obeys IsLawful m (fire_due n m)
 unfolding fire_due

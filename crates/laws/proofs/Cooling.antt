@@ -62,11 +62,7 @@ changed-mild a change m same warm b = by_bool (same_address b a) (λ c. Stays (p
     (λ e. subst (Stays (peer_at b m)) (sym (turns_at-elsewhere a change m same b e)) (stays_itself (peer_at b m)))
 
 comes-mild : (big : Bool) (a : Addr) (m : Machine) → Mild m (peer_comes big a m).machine
-comes-mild big a m b = subst (λ n. Stays (peer_at b m) (peer_at b n)) (sym (comes-machine big a m))
-    (entered-cases (new_peer big a) m.peers (λ qs. Stays (peer_at b m) (peer_in b qs)) (stays_itself (peer_at b m))
-    (λ none room. by_bool (same_address b a) (λ c. Stays (peer_at b m) (peer_in b (with_new_in (new_peer big a) m.peers)))
-    (λ e. grind (arith, none, same_address-true b a e))
-    (λ e. subst (Stays (peer_at b m)) (sym (put_in-elsewhere (new_peer big a) b m.peers e)) (stays_itself (peer_at b m)))))
+comes-mild big a m b = grind (arith, comes-machine, stays_itself, entered-cases, same_address-true, put_in-elsewhere)
 
 -- ---- what happens on a connection
 
@@ -118,8 +114,7 @@ abbrev IsCold : Option Peer → Type 0
 IsCold o = OnPeer o (λ p. p.temp ≡ Cold)
 
 used-beside : (change : Peer → Peer) (e : Entry) (m n : Machine) → n.peers ≡ m.peers → ((p : Peer) → (change p).addr ≡ p.addr) → IsCold (peer_at e.facts.addr m) → Mild m (peer_changes e.facts.addr change n).machine
-used-beside change e m n same keeps cold = mild_then m n (peer_changes e.facts.addr change n).machine (same-mild m n same)
-    (changed-mild e.facts.addr change n keeps (λ p is. inr (inr (subst IsCold (sym (ap (peer_in e.facts.addr) same) ∙ is) cold))))
+used-beside change e m n same keeps cold = grind (arith, same-mild, mild_then, changed-mild)
 
 judged-beside : (v : Verdict) (e : Entry) (m : Machine) → IsCold (peer_at e.facts.addr m) → Beside e m (judged v e m).machine
 judged-beside (verdict.Accept agreed) e m cold = same-beside e m (judged (verdict.Accept agreed) e m).machine refl
@@ -193,9 +188,7 @@ lost-cooled : (may_rest : Bool) (a b : Option Peer) → IsCold b → WhereBoth (
 lost-cooled may_rest a b cold = grind (arith, cold)
 
 lost-listed : (e : Entry) (k : ℕ) (m n : Machine) (b : Addr) → StandsAt m.connections k e → Lost e b n → has_lost b m n ≡ true
-lost-listed e k m n b s lost =
-    list_any_at (λ x. same_address x.facts.addr b && (is_missed x.facts && is_none (entry_at x.facts.cid.0 n))) m.connections k e s.inside
-    (rw s.is (let own = lost.0 in let missed = lost.1 in let gone = lost.2 in grind (arith, own, missed, gone, same_address-self e.facts.addr)))
+lost-listed e k m n b s lost = grind (arith, same_address-self, list_any_at)
 
 beside-cools : (act : Act) (own : ℕ) (does_it : Entry → Machine → Effect) (m : Machine) → ((e : Entry) (k : ℕ) → StandsAt m.connections k e → Beside e m (does_it e m).machine) →
     CoolsOnly act m (on_entry (entry_at own m) does_it m).machine
@@ -214,10 +207,7 @@ established-cold t h = grind (arith, h)
 
 -- whoever greets has a peer that is cold
 greeting-cold : (e : Entry) (k : ℕ) (m : Machine) → IsOrdered m → IsTied m → StandsAt m.connections k e → is_greeting e.facts ≡ true → IsCold (peer_at e.facts.addr m)
-greeting-cold e k m h ties s greets =
-    let unused : e.facts.local ≡ false = ((stands-shaped m e k h s).unused (greeting-unnegotiated e.facts.phase greets)).local in
-    by_option (peer_at e.facts.addr m) (λ o. TiedBy m.now o (Some e) → IsCold o) (λ is tie. tt) (λ p is tie. established-cold p.temp (tie.established ∙ unused))
-    (subst (λ o. TiedBy m.now (peer_at e.facts.addr m) o) (live_here m e k h.orderly s (greeting-live e.facts.phase greets)) (ties e.facts.addr))
+greeting-cold e k m h ties s greets = grind (arith, stands-shaped, greeting-unnegotiated, live_here, greeting-live, established-cold)
 
 to_cold : (may_rest : Bool) (t : Temp) → IsCooledBy true may_rest t Cold
 to_cold may_rest Cold = tt
@@ -313,9 +303,7 @@ cools-only (handles_item cid item) m next found given =
 cools-only (ends_stream cid fault) m next found given = beside-cools (ends_stream cid fault) cid.0 (faulted fault) m (λ e k s. faulted-beside fault e m)
 cools-only (is_closed cid) m next found given = beside-cools (is_closed cid) cid.0 closes m
     (λ e k s. cond_both (is_live e.facts) (vanishes e m) (nothing_more m) (λ effect. Beside e m effect.machine) (λ live. vanishes-beside e m) (λ closed. same-beside e m m refl))
-cools-only (makes_ordinary addr) m next found given = mild-cools (makes_ordinary addr) m (does (makes_ordinary addr) m).machine
-    (changed-mild addr (λ p. record p { big = false }) m (λ p. refl) (λ p is. inl refl))
+cools-only (makes_ordinary addr) m next found given = grind (arith, mild-cools, changed-mild)
 cools-only (provides addr) m next found given = mild-cools (provides addr) m (does (provides addr) m).machine (comes-mild false addr m)
-cools-only (provides_big addr) m next found given = mild-cools (provides_big addr) m (does (provides_big addr) m).machine
-    (cond_both (is_wanted_big addr m) (as_move (shared addr) m (peer_comes true addr m)) (nothing_more m) (λ effect. Mild m effect.machine) (λ wanted. comes-mild true addr m) (λ other. same-mild m m refl))
+cools-only (provides_big addr) m next found given = grind (arith, mild-cools, comes-mild, same-mild)
 cools-only other m next found given = mild-cools other m (does other m).machine (same-mild m (does other m).machine (treats-book other m))

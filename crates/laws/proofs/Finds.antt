@@ -27,8 +27,7 @@ find-set_here p new x (y ∷ ys) (suc k) one s old_passes new_passes =
 pub find-set_gone : {X : Type 0} (p : X → Bool) (new x : X) (xs : List X) (k : ℕ) → OnePasses p xs → StandsAt xs k x →
     p x ≡ true → p new ≡ false → find p (set xs k new) ≡ None
 find-set_gone p new x [] k one s old_passes new_fails = absurd (omega (arith, s.inside))
-find-set_gone p new x (y ∷ ys) zero one s old_passes new_fails =
-    rw new_fails (find-none_passes p ys (OnePasses-none_after p y ys one (ap p s.is ∙ old_passes)))
+find-set_gone p new x (y ∷ ys) zero one s old_passes new_fails = grind (arith, find-none_passes p ys (OnePasses-none_after p y ys one (ap p s.is ∙ old_passes)))
 find-set_gone p new x (y ∷ ys) (suc k) one s old_passes new_fails =
     let rest : StandsAt ys k x = stands_before y x ys k s in
     grind (arith, OnePasses-not_before p y x ys k one rest old_passes, find-set_gone p new x ys k (OnePasses-tail p y ys one) rest old_passes new_fails)
@@ -38,15 +37,13 @@ pub find-remove_other : {X : Type 0} (p : X → Bool) (x : X) (xs : List X) (k :
     p x ≡ false → find p (remove xs k) ≡ find p xs
 find-remove_other p x [] k s fails = absurd (omega (arith, s.inside))
 find-remove_other p x (y ∷ ys) zero s fails = let here : p y ≡ false = ap p s.is ∙ fails in rw here refl
-find-remove_other p x (y ∷ ys) (suc k) s fails =
-    ap (λ o. cond (p y) (Some y) o) (find-remove_other p x ys k (stands_before y x ys k s) fails)
+find-remove_other p x (y ∷ ys) (suc k) s fails = grind (arith, find-remove_other p x ys k (stands_before y x ys k s) fails, stands_before y x ys k s)
 
 -- the one that passes goes
 pub find-remove_here : {X : Type 0} (p : X → Bool) (x : X) (xs : List X) (k : ℕ) → OnePasses p xs → StandsAt xs k x →
     p x ≡ true → find p (remove xs k) ≡ None
 find-remove_here p x [] k one s passes = absurd (omega (arith, s.inside))
-find-remove_here p x (y ∷ ys) zero one s passes =
-    find-none_passes p ys (OnePasses-none_after p y ys one (ap p s.is ∙ passes))
+find-remove_here p x (y ∷ ys) zero one s passes = grind (arith, find-none_passes p ys (OnePasses-none_after p y ys one (ap p s.is ∙ passes)))
 find-remove_here p x (y ∷ ys) (suc k) one s passes =
     let rest : StandsAt ys k x = stands_before y x ys k s in
     grind (arith, OnePasses-not_before p y x ys k one rest passes, find-remove_here p x ys k (OnePasses-tail p y ys one) rest passes)
@@ -61,21 +58,7 @@ either_way o false = refl
 pub replaced : (c : ℕ) (new : Entry) (es : List Entry) → find (λ e. has_id c e.facts) (map (λ e. if has_id new.facts.cid.0 e.facts then new else e) es)
     ≡ (if has_id c new.facts then option_map (λ e. new) (find (λ e. has_id c e.facts) es) else find (λ e. has_id c e.facts) es)
 replaced c new [] = either_way {X = Entry} None (has_id c new.facts)
-replaced c new (e ∷ es) =
-    let later : Option Entry = find (λ x. has_id c x.facts) (map (λ x. if has_id new.facts.cid.0 x.facts then new else x) es) in
-    let was : Option Entry = find (λ x. has_id c x.facts) es in
-    by_bool (has_id new.facts.cid.0 e.facts)
-    (λ a. cond (has_id c (if a then new else e).facts) (Some (if a then new else e)) later
-    ≡ (if has_id c new.facts then option_map (λ x. new) (cond (has_id c e.facts) (Some e) was) else cond (has_id c e.facts) (Some e) was))
-    (λ own.
-    subst (λ h. cond (has_id c new.facts) (Some new) later ≡ (if has_id c new.facts then option_map (λ x. new) (cond h (Some e) was) else cond h (Some e) was))
-    (sym (ap (λ n. n == c) (eqb-true e.facts.cid.0 new.facts.cid.0 own)))
-    (by_bool (has_id c new.facts) (λ b. later ≡ (if b then option_map (λ x. new) was else was) →
-    cond b (Some new) later ≡ (if b then option_map (λ x. new) (cond b (Some e) was) else cond b (Some e) was)) (λ is rest. refl) (λ is rest. rest) (replaced c new es)))
-    (λ apart. by_bool (has_id c new.facts) (λ b. later ≡ (if b then option_map (λ x. new) was else was) →
-    cond (has_id c e.facts) (Some e) later ≡ (if b then option_map (λ x. new) (cond (has_id c e.facts) (Some e) was) else cond (has_id c e.facts) (Some e) was))
-    (λ is rest. rw (ap (λ n. e.facts.cid.0 == n) (sym (eqb-true new.facts.cid.0 c is)) ∙ apart) rest)
-    (λ is rest. ap (λ o. cond (has_id c e.facts) (Some e) o) rest) (replaced c new es))
+replaced c new (e ∷ es) = grind (arith, replaced c new es)
 
 -- where all that pass one test pass another, or none does
 pub found-filter : {X : Type 0} (q r : X → Bool) (b : Bool) → ((x : X) → q x ≡ true → r x ≡ b) → (xs : List X) → find q (filter r xs) ≡ (if b then find q xs else None)
@@ -100,5 +83,4 @@ gone-found c cid es =
     ∙ by_bool (cid == c) (λ b. (if not b then find (λ e. has_id c e.facts) es else None) ≡ (if b then None else find (λ e. has_id c e.facts) es)) (λ is. refl) (λ is. refl)
   where
     same_turned : (c == cid) ≡ (cid == c)
-    same_turned = by_bool (cid == c) (λ b. (c == cid) ≡ b) (λ is. eq-eqb c cid (sym (eqb-true cid c is)))
-        (λ other. ne_eqb c cid (λ same. both_ways (cid == c) other (eq-eqb cid c (sym same))))
+    same_turned = grind arith

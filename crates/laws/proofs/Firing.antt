@@ -94,19 +94,14 @@ deadlines-by P e greets closes for_remote for_local owed =
     (All-map P (reply_deadline e.facts.cid) e.owed owed)
   where
     by_phase : (p : Phase) → e.facts.phase ≡ p → All P (phase_deadlines e.facts.cid p)
-    by_phase (Greeting until) is = all_one P (timer e.facts.cid Handshake until) (greets until is)
-    by_phase (Closing until) is = all_one P (timer e.facts.cid TimeWait until) (closes until is)
-    by_phase other is = All-nil P
+    by_phase p is = grind arith
 
     by_grace : (g : Grace) → e.facts.grace ≡ g → All P (grace_deadlines e.facts.cid g)
-    by_grace Off is = All-nil P
-    by_grace (ForRemote until) is = all_one P (timer e.facts.cid GraceKind until) (for_remote until is)
-    by_grace (ForLocal until) is = all_one P (timer e.facts.cid GraceKind until) (for_local until is)
+    by_grace g is = grind arith
 
 -- one that is owed waits for a reply
 pub reply_kind-cases : (P : Kind → Type 0) → P Reply2 → P Reply8 → P Reply10 → (protocol : ℕ) → P (reply_kind protocol)
-reply_kind-cases P on_2 on_8 on_10 protocol = cond_both (protocol == 2) Reply2 (if protocol == 8 then Reply8 else Reply10) P (λ is. on_2)
-    (λ not_2. cond_both (protocol == 8) Reply8 Reply10 P (λ is. on_8) (λ not_8. on_10))
+reply_kind-cases P on_2 on_8 on_10 protocol = grind arith
 
 -- Only a grace has a deadline of its kind.
 pub grace-among : (e : Entry) (d : Deadline) → Contains (deadlines_of e) d → d.kind ≡ GraceKind →
@@ -127,10 +122,7 @@ grace-among e d among = All-contains OfGrace (deadlines_of e) d (deadlines-by Of
 -- a late one among some is counted
 late-counted : (now : ℕ) (ds : List Deadline) (d : Deadline) → Contains ds d → is_late now d ≡ true →
     1 ≤ count_by (is_late now) ds
-late-counted now ds d c late =
-    let least_sum : cond (is_late now (get_or ds c.0 d)) 1 0 ≤ count_by (is_late now) ds =
-    get_or-le-sum_by (λ x. cond (is_late now x) 1 0) ds c.0 d c.1 in
-    rw (c.2, late) at least_sum
+late-counted now ds d c late = grind (arith, is_late, get_or-le-sum_by)
 
 -- a late deadline of a connection is gone once it has fired
 fired_of-positive : (now : ℕ) (e : Entry) (d : Deadline) → Contains (deadlines_of e) d → is_late now d ≡ true →

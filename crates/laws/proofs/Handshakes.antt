@@ -37,9 +37,7 @@ agrees_on-no_accept own version info = grind arith
 
 -- a dialer accepts nothing, and an acceptor agrees to nothing
 dialer-no_accept : (own : VersionInfo) (m : Message) → is_accept (verdict_of Dialer own m) ≡ false
-dialer-no_accept own (message.Propose table) = grind (arith, λ (offer : Offer). meets_info-no_accept own offer.version offer.info)
-dialer-no_accept own (message.Accept version info) = agrees_on-no_accept own version info
-dialer-no_accept own other = refl
+dialer-no_accept own m = grind arith
 
 acceptor-no_agree : (own : VersionInfo) (m : Message) → is_agree (verdict_of Acceptor own m) ≡ false
 acceptor-no_agree own (message.Propose table) = grind (arith, λ (offer : Offer). accepts_info-no_agree own offer.version offer.info)

@@ -56,9 +56,7 @@ stopped-running done protocol until e = grind (arith, begun-running protocol e, 
 -- where the connection is there, its responders are these
 requested-runs : (r : Result Seen FaultKind) (protocol : ℕ) (e : Entry) (m : Machine) (o : Option Entry) → IsAsItWas (turned_by_request r protocol e m) o →
     WhereSeen r (λ seen. WhereThere o (λ f. f.facts.running ≡ with_responder protocol (not seen.done) e.facts.running))
-requested-runs (Err fault) protocol e m o becomes = tt
-requested-runs (Ok seen) protocol e m None becomes = tt
-requested-runs (Ok seen) protocol e m (Some f) becomes = grind (arith, becomes, stopped-running seen.done protocol (m.now + m.settings.idle) e)
+requested-runs r protocol e m o becomes = grind (arith, stopped-running)
 
 handled-runs : (p : Phase) (item : Item) (e : Entry) (m : Machine) (o : Option Entry) → IsAsItWas (turned_by_item p item e m) o → is_negotiated_phase p ≡ true → (item.side == 0) ≡ true →
     WhereSeen (watched item.id (agreed_sharing e.facts.agreed) item.body) (λ seen. WhereThere o (λ f. f.facts.running ≡ with_responder item.id (not seen.done) e.facts.running))
@@ -97,9 +95,7 @@ requested-live : (r : Result Seen FaultKind) (protocol : ℕ) (e x : Entry) (m :
 requested-live r protocol e x m live is = grind (arith, live, is)
 
 item-live : (p : Phase) (item : Item) (e x : Entry) (m : Machine) → is_live e.facts ≡ true → turned_by_item p item e m ≡ Some x → is_live x.facts ≡ true
-item-live p item e x m live is =
-    let asked = requested-live (watched item.id (agreed_sharing e.facts.agreed) item.body) item.id e x m live in
-    grind (arith, live, is, message-live (message_of item.body) e x m, asked)
+item-live p item e x m live is = grind (arith, requested-live, message-live)
 
 pub handles-open : (cid : Cid) (item : Item) (m : Machine) → IsOrdered m → IsOpen cid.0 m → IsOpen cid.0 (handles cid item m).machine
 handles-open cid item m h open_ x found = by_option (entry_at cid.0 m) (λ o. is_live x.facts ≡ true)

@@ -51,12 +51,7 @@ accounts_move happened m effect no_end no_dial h = record {
 -- nobody comes up
 accounts_none : (m : Machine) (effect : Effect) → NoneConnected m effect.machine → StaysDown is_hot m effect.machine → StaysDown is_known m effect.machine →
     IsTold m effect → Accounts m effect
-accounts_none m effect connected hot known told = record {
-  promotions = rises_nowhere is_up promotes m effect connected.up;
-  activations = rises_nowhere is_hot_or_asked activates m effect (hot_or_asked-down m effect.machine hot connected.asked);
-  arrivals = rises_nowhere is_known shares m effect known;
-  told = told;
-}
+accounts_none m effect connected hot known told = grind arith
 
 -- a connection turns
 pub accounts_turned : (m : Machine) (e new : Entry) (k : ℕ) (effect : Effect) → IsOrderly m → StandsAt m.connections k e → TurnsInto e new → IsNoHigher e new →
@@ -69,9 +64,7 @@ accounts_turned m e new k effect h s t lower same told =
 pub accounts_gone : (m : Machine) (e : Entry) (k : ℕ) (effect : Effect) → IsOrderly m → StandsAt m.connections k e →
     effect.machine.connections ≡ (without_entry e.facts.cid.0 m).connections → StaysDown is_hot m effect.machine → StaysDown is_known m effect.machine →
     IsTold m effect → Accounts m effect
-accounts_gone m e k effect h s same hot known told =
-    accounts_none m effect (connected_then m (without_entry e.facts.cid.0 m) effect.machine (gone-connected m e k h s)
-    (same-connected (without_entry e.facts.cid.0 m) effect.machine same)) hot known told
+accounts_gone m e k effect h s same hot known told = grind (arith, accounts_none, connected_then, gone-connected, same-connected)
 
 -- a connection comes that is neither up nor asked
 pub accounts_come : (m : Machine) (new : Entry) (effect : Effect) → is_up_connection (Some new) ≡ false → is_asked_connection (Some new) ≡ false →
@@ -123,8 +116,7 @@ quiet_then m first next one two = grind (arith, told_then m first next one.told 
 
 -- a peer changes, and does not become hot
 pub changes-quiet : (a : Addr) (change : Peer → Peer) (m : Machine) → IsCooling change → IsQuiet m (peer_changes a change m)
-changes-quiet a change m cools =
-    grind (arith, turns_at-moves (peer_at a m) change m, turns_at-connections (peer_at a m) change m, changed-hot a change m cools, changed-known a change m cools.addr, changes-told a change m cools.addr)
+changes-quiet a change m cools = grind (arith, turns_at-moves, turns_at-connections, changed-hot, changed-known, changes-told)
 
 pub lost-quiet : (f : Facts) (m : Machine) → IsQuiet m (lost f m)
 lost-quiet f m = grind (arith, tells-quiet [] m refl, changes-quiet)
@@ -231,16 +223,10 @@ turned_then-obeys Law m e new k next h s t lower forward quiet =
 
 -- what follows on the connection
 succeeds-quiet : (f : Facts) (m : Machine) → IsQuiet m (then_do (peer_succeeds f.addr m) (sends_as_initiator f.cid 8 (written_alive (Ask (f.cid.0 % 65536)))))
-succeeds-quiet f m =
-    let warm : Peer → Peer = λ p. record p { temp = Warm; failures = 0 } in
-    let first : Effect = peer_changes f.addr warm m in
-    quiet_then m first (sends_as_initiator f.cid 8 (written_alive (Ask (f.cid.0 % 65536))))
-    (changes-quiet f.addr warm m (record { addr = λ p. refl; hot = λ p hot. absurd (false≢true hot) }))
-    (tells-quiet (sends_as_initiator f.cid 8 (written_alive (Ask (f.cid.0 % 65536))) first.machine).actions first.machine refl)
+succeeds-quiet f m = grind (arith, quiet_then, changes-quiet, tells-quiet)
 
 asked-before : (m : Machine) (e : Entry) (f : Facts) → is_asked_connection (Some (owing 8 (f.cid.0 % 65536) m (record e { facts = f }))) ≡ true → is_asked_connection (Some e) ≡ true
-asked-before m e f =
-    with_reply-some (λ o. o.protocol == 2) (record { protocol = 8; until = m.now + m.settings.reply; asked = f.cid.0 % 65536 }) e.owed refl
+asked-before m e f = grind (arith, with_reply-some)
 
 pub negotiated-forward : (p q : Phase) → live_phase p ≡ true → is_negotiated_phase q ≡ true → stage_of_phase p ≤ stage_of_phase q
 negotiated-forward p Negotiated live negotiated = live_stage p live

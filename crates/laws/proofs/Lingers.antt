@@ -74,10 +74,7 @@ lingers act m next found told cid waits =
   where
     -- one that is there waits still
     still : is_some (entry_at cid (does act m).machine) ≡ true → is_waiting_at cid (does act m).machine ≡ true
-    still there =
-        let before : 4 ≤ stage_at cid m = waiting-stage (entry_at cid m) (nat_lt cid m.next_id) waits in
-        let forward = (told.connections cid).forward in
-        late-waits (entry_at cid (does act m).machine) (nat_lt cid (does act m).machine.next_id) there (omega (arith, before, forward))
+    still there = grind arith
 
     by_ways : (there : Bool) → is_some (entry_at cid (does act m).machine) ≡ there → (ended : Bool) → ended ≡ false →
         (there || (ended || (goes_by_itself act m cid || (may_close act && is_about act m cid)))) ≡ true → (is_waiting_at cid (does act m).machine || ends_time_wait act cid) ≡ true

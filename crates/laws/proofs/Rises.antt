@@ -95,18 +95,13 @@ turned-down q none m e new k h s t lower addr = by_bool (is_live e.facts)
     by_new false live is = absurd (false≢true (sym none ∙ is))
 
     by_address : is_live e.facts ≡ true → (b : Bool) → same_address addr e.facts.addr ≡ b → q (live_entry_at addr (with_entry new m)) ≡ true → q (live_entry_at addr m) ≡ true
-    by_address live true same is =
-        subst (λ a. q (live_entry_at a (with_entry new m)) ≡ true → q (live_entry_at a m) ≡ true) (sym (same_address-true addr e.facts.addr same))
-        (λ there. by_new (is_live new.facts) live (ap q (sym (turned_here m e new k h s t live)) ∙ there)) is
+    by_address live true same is = grind (arith, same_address-true addr e.facts.addr same, turned_here m e new k h s t live, by_new)
     by_address live false other is = ap q (sym (turned_elsewhere m e new k h s t addr other)) ∙ is
 
 -- a connection turns
 pub turned-connected : (m : Machine) (e new : Entry) (k : ℕ) → IsOrderly m → StandsAt m.connections k e → TurnsInto e new → IsNoHigher e new →
     NoneConnected m (with_entry new m)
-turned-connected m e new k h s t lower = record {
-  up = turned-down is_up_connection refl m e new k h s t lower.up;
-  asked = turned-down is_asked_connection refl m e new k h s t lower.asked;
-}
+turned-connected m e new k h s t lower = grind (arith, turned-down is_up_connection refl m e new k h s t lower.up, turned-down is_asked_connection refl m e new k h s t lower.asked)
 
 gone-down : (q : Option Entry → Bool) → q None ≡ false → (m : Machine) (e : Entry) (k : ℕ) → IsOrderly m → StandsAt m.connections k e →
     StaysDown (of_connection q) m (without_entry e.facts.cid.0 m)
@@ -118,17 +113,12 @@ gone-down q none m e k h s addr = by_bool (is_live e.facts) (λ b. q (live_entry
     gone = without_entry e.facts.cid.0 m
 
     by_address : is_live e.facts ≡ true → (b : Bool) → same_address addr e.facts.addr ≡ b → q (live_entry_at addr gone) ≡ true → q (live_entry_at addr m) ≡ true
-    by_address live true same is =
-        let here : live_entry_at addr gone ≡ None = subst (λ a. live_entry_at a gone ≡ None) (sym (same_address-true addr e.facts.addr same)) (gone_here m e k h s live) in
-        absurd (false≢true (sym none ∙ ap q (sym here) ∙ is))
+    by_address live true same is = grind (arith, same_address-true addr e.facts.addr same, gone_here m e k h s live, gone)
     by_address live false other is = ap q (sym (gone_elsewhere m e k h s addr other)) ∙ is
 
 -- a connection goes
 pub gone-connected : (m : Machine) (e : Entry) (k : ℕ) → IsOrderly m → StandsAt m.connections k e → NoneConnected m (without_entry e.facts.cid.0 m)
-gone-connected m e k h s = record {
-  up = gone-down is_up_connection refl m e k h s;
-  asked = gone-down is_asked_connection refl m e k h s;
-}
+gone-connected m e k h s = grind (arith, gone-down is_up_connection refl m e k h s, gone-down is_asked_connection refl m e k h s)
 
 pushed-down : {X : Type 0} (q : Option X → Bool) (p : X → Bool) (new : X) (xs : List X) → q None ≡ false → q (Some new) ≡ false →
     q (find p (xs ++ new ∷ [])) ≡ true → q (find p xs) ≡ true
@@ -170,10 +160,7 @@ entered-down q new ps b lower = entered-cases new ps (λ qs. q (peer_in b qs) �
     (λ none room. comes (none_there (peer_in new.addr ps) none) (same_address new.addr b) refl)
   where
     comes : peer_in new.addr ps ≡ None → (c : Bool) → same_address new.addr b ≡ c → q (peer_in b (with_new_in new ps)) ≡ true → q (peer_in b ps) ≡ true
-    comes none true e is =
-        let at : new.addr ≡ b = same_address-true new.addr b e in
-        let here : peer_in b (with_new_in new ps) ≡ Some new = subst (λ a. peer_in a (with_new_in new ps) ≡ Some new) at (put_in-here new ps none) in
-        absurd (false≢true (sym (lower e) ∙ ap q (sym here) ∙ is))
+    comes none true e is = grind (arith, same_address-true new.addr b e, put_in-here new ps none)
     comes none false e is = ap q (sym (put_in-elsewhere new b ps (same_turned new.addr b e))) ∙ is
 
 pub entered-hot : (big : Bool) (a : Addr) (m : Machine) → StaysDown is_hot m (record m { peers = entered (new_peer big a) m.peers })

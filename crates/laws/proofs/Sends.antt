@@ -62,20 +62,13 @@ gives_up-silent e m =
 
 release-sends : (e : Entry) (m : Machine) → sent_in (release e m).actions
     ≡ (if agreed_sharing e.facts.agreed then says e.facts.cid.0 0 10 peer_sharing_done m else []) ++ says e.facts.cid.0 0 8 (written_alive Done) m
-release-sends e m =
-    then-sent (says_done e.facts m) (gives_up e) ((if agreed_sharing e.facts.agreed then says e.facts.cid.0 0 10 peer_sharing_done m else []) ++ says e.facts.cid.0 0 8 (written_alive Done) m)
-    (by_bool (agreed_sharing e.facts.agreed)
-    (λ b. sent_in (then_do (if b then sends_as_initiator e.facts.cid 10 peer_sharing_done m else nothing_more m) (sends_as_initiator e.facts.cid 8 (written_alive Done))).actions
-    ≡ (if b then says e.facts.cid.0 0 10 peer_sharing_done m else []) ++ says e.facts.cid.0 0 8 (written_alive Done) m)
-    (λ sharing. refl) (λ other. refl))
-    (subst (λ w. sent_in (gives_up e w).actions ≡ []) (sym (says_done-machine e.facts m)) (gives_up-silent e m))
+release-sends e m = grind (arith, says_done-machine, gives_up-silent, then-sent)
 
 asks_peer-sends : (n : ℕ) (e : Entry) (m : Machine) → sent_in (asks_peer n e m).actions ≡ says e.facts.cid.0 0 10 (written_request n) m
 asks_peer-sends n e m = grind (arith, then-sent, then-silent, turns-silent, sent-deaf, changed-silent)
 
 activates-sends : (e : Entry) (m : Machine) → sent_in (activates e m).actions ≡ says e.facts.cid.0 0 2 find_intersect m
-activates-sends e m =
-    then-sent (sends_as_initiator e.facts.cid 2 find_intersect m) (λ n. entry_turns e (owing 2 0 n e) n) (says e.facts.cid.0 0 2 find_intersect m) refl (turns-silent sent_by sent-deaf e (owing 2 0 m e) m)
+activates-sends e m = grind arith
 
 deactivates-sends : (e : Entry) (m : Machine) → sent_in (deactivates e m).actions ≡ says e.facts.cid.0 0 2 chain_sync_done m
 deactivates-sends e m = grind (arith, then-sent, changed-silent, sent-deaf)
@@ -88,9 +81,7 @@ on_used-sends (Some e) act m due each = each e
 promoted_at-sends : (o : Option Entry) (addr : Addr) (m : Machine) →
     sent_in (promoted_at o addr m).actions ≡ on_one o (λ e. if is_acquirable e.facts then keeps_alive e.facts.cid.0 m else [])
 promoted_at-sends None addr m = refl
-promoted_at-sends (Some e) addr m = by_bool (is_acquirable e.facts)
-    (λ b. sent_in (if b then acquire e m else dial addr m).actions ≡ (if b then keeps_alive e.facts.cid.0 m else []))
-    (λ is. used-sends (acquired e.facts) e m) (λ is. refl)
+promoted_at-sends (Some e) addr m = grind (arith, used-sends (acquired e.facts) e m)
 
 orders-send : (order : Order) (m : Machine) → sent_in (carries_out order m).actions ≡ due_by_order order m
 orders-send order m = grind (arith, on_used-sends, asks_peer-sends, promoted_at-sends, release-sends, activates-sends, deactivates-sends)
@@ -109,11 +100,7 @@ answer-sends None cid m = refl
 answer-sends (Some bytes) cid m = refl
 
 pub decided-sends : (v : Verdict) (e : Entry) (m : Machine) → sent_in (decided v e m).actions ≡ due_by_verdict v e.facts.cid.0 m
-decided-sends v e m =
-    let answer : Option (List ℕ) = answer_of v (own_info m.settings) in
-    then-sends (sends_answer answer e.facts.cid m) (judged v e) (answers answer e.facts.cid.0 m) (if comes_into_use v then keeps_alive e.facts.cid.0 m else [])
-    (answer-sends answer e.facts.cid m)
-    (subst (λ n. sent_in (judged v e n).actions ≡ (if comes_into_use v then keeps_alive e.facts.cid.0 m else [])) (sym (answer-machine answer e.facts.cid m)) (judged-sends v e m))
+decided-sends v e m = grind (arith, judged-sends, then-sends, answer-sends, answer-machine)
 
 greets-sends : (item : Item) (e : Entry) (m : Machine) → sent_in (greets item e m).actions ≡ due_in_greeting item e.facts m
 greets-sends item e m = greets-due by_message [] (λ v. due_by_verdict v e.facts.cid.0 m) item e m (λ effect due. sent_in effect.actions ≡ due)
@@ -142,20 +129,12 @@ asked-gone (Ok seen) protocol e m =
     (subst (λ c. entry_at c (serves seen protocol f first.machine).machine ≡ None) (sym same) gone)))) (λ other gone. ending-silent sent_by sent-deaf (Fault Protocol) e m)
 
 talks-sends : (item : Item) (e : Entry) (m : Machine) → SendsInUse item e (talks item e m)
-talks-sends item e m =
-    let asks : Effect = asked_as (watched item.id (agreed_sharing e.facts.agreed) item.body) item.id e m in
-    record {
-      answer = λ other. subst (λ b. sent_in (if b then asks else answered_as (reply_on item.id e) item e m).actions ≡ []) (sym other) (answered-silent sent_by sent-deaf (reply_on item.id e) item e m);
-      gone = cond_both (item.side == 0) asks (answered_as (reply_on item.id e) item e m) (λ effect. entry_at e.facts.cid.0 effect.machine ≡ None → sent_in effect.actions ≡ [])
-          (λ first. asked-gone (watched item.id (agreed_sharing e.facts.agreed) item.body) item.id e m) (λ other gone. answered-silent sent_by sent-deaf (reply_on item.id e) item e m);
-    }
+talks-sends item e m = grind (arith, answered-silent, sent-deaf, asked-gone)
 
 -- ---- each act
 
 handled-sends : (p : Phase) (item : Item) (e : Entry) (m : Machine) → SendsByPhase p item e m (handled_in p item e m)
-handled-sends (Greeting until) item e m = greets-sends item e m
-handled-sends Negotiated item e m = talks-sends item e m
-handled-sends other item e m = refl
+handled-sends p item e m = grind (arith, greets-sends, talks-sends)
 
 item-sends : (o : Option Entry) (item : Item) (m : Machine) → SendsOnItem o item m (on_entry o (handled item) m)
 item-sends None item m = refl
@@ -165,9 +144,4 @@ dialed-sends : (opened : Bool) (e : Entry) (m : Machine) → sent_in (dialed ope
 dialed-sends opened e m = grind (arith, opens-sends, vanishes-silent, sent-deaf)
 
 pub sends-right : (act : Act) (m : Machine) → IsNext act m → Finds act m → SendsRight act m (does act m)
-sends-right asks_for_roots m next found = asks-silent sent_by (λ job. refl) m
-sends-right (carries order) m next found = orders-send order m
-sends-right (connects addr) m next found = connects-silent sent_by sent-deaf (λ cid to. refl) (λ why. refl) (λ length. refl) addr m
-sends-right (ends_dial cid opened) m next found = on_used-sends (entry_at cid.0 m) (dialed opened) m (λ e. if is_dialing e.facts && opened then says e.facts.cid.0 0 0 (proposal_of (own_info m.settings)) m else []) (λ e. dialed-sends opened e m)
-sends-right (handles_item cid item) m next found = item-sends (entry_at cid.0 m) item m
-sends-right other m next found = quiet-silent sent_by sent-deaf other m tt (λ never. absurd (false≢true never)) next found
+sends-right act m next found = grind (arith, asks-silent, orders-send, connects-silent, sent-deaf, on_used-sends, dialed-sends, item-sends, quiet-silent)

@@ -35,10 +35,7 @@ advertised-tellable m addr h =
 
 book-known : (ps : List Peer) → AllByRecursion (λ a. is_some (peer_in a ps) ≡ true) (addresses_of ps)
 book-known [] = tt
-book-known (p ∷ ps) = (
-  rw (same_address-self p.addr) refl,
-  all-weaker (λ a. is_some (peer_in a ps) ≡ true) (λ a. is_some (peer_in a (p ∷ ps)) ≡ true) (λ a there. grind (arith, there)) (addresses_of ps) (book-known ps),
-)
+book-known (p ∷ ps) = grind (arith, same_address-self p.addr, book-known ps, all-weaker)
 
 served-each : (asker : Addr) (n : ℕ) (m : Machine) → AllByRecursion (MayBeTold asker m) (served_to asker n m.peers m.groups m.roots.publics)
 served-each asker n m =

@@ -25,8 +25,7 @@ pub accepted-shaped : (cid : ℕ) (addr : Addr) (until : ℕ) → IsShaped (acce
 accepted-shaped cid addr until = grind (arith, unused-shaped)
 
 pub dialing-shaped : (cid : ℕ) (addr : Addr) → IsShaped (dialing cid addr)
-dialing-shaped cid addr =
-    unused-shaped (dialing cid addr) (record { agreed = refl; local = refl; running = refl; grace = refl }) refl (λ h. refl)
+dialing-shaped cid addr = grind arith
 
 pub connected-shaped : (until : ℕ) (f : Facts) → IsShaped f → is_dialing f ≡ true → IsShaped (connected until f)
 connected-shaped until f h dials = grind (arith, h.unused (dialing-unnegotiated f.phase dials), dialing-unnegotiated f.phase dials, unused-shaped)
@@ -52,26 +51,15 @@ outbound_grace-serves false false runs until none serves = refl
 
 pub agreed_outbound-shaped : (agreed : Agreed) (until : ℕ) (f : Facts) → IsShaped f → is_greeting f ≡ true →
     is_outbound f ≡ true → IsShaped (agreed_outbound agreed until f)
-agreed_outbound-shaped agreed until f h greets outbound =
-    let u : IsUnused f = h.unused (greeting-unnegotiated f.phase greets) in record {
-      unused = λ e. absurd (false≢true (sym e));
-      dialing = λ e. absurd (false≢true e);
-      remote = λ runs. absurd (both_ways (some_runs f.running) u.running runs);
-      kept = λ local. cond_both agreed.initiator_only Off (ForRemote until) (λ g. is_for_local g ≡ false) (λ alone. refl) (λ both. refl);
-      idle = λ phase local runs. absurd (false≢true (sym local));
-      serves_remote = λ serves. outbound_grace-serves agreed.initiator_only (is_outbound f) (some_runs f.running) until u.running serves;
-      serves_local = λ local. rw outbound refl;
-    }
+agreed_outbound-shaped agreed until f h greets outbound = grind arith
 
 -- ---- what is in use is negotiated
 
 pub local-negotiated : (f : Facts) → IsShaped f → f.local ≡ true → is_negotiated f ≡ true
-local-negotiated f h local = by_bool (is_negotiated f) (λ b. is_negotiated f ≡ true)
-    (λ e. e) (λ e. absurd (both_ways f.local (h.unused e).local local))
+local-negotiated f h local = grind arith
 
 pub running-negotiated : (f : Facts) → IsShaped f → some_runs f.running ≡ true → is_negotiated f ≡ true
-running-negotiated f h runs = by_bool (is_negotiated f) (λ b. is_negotiated f ≡ true)
-    (λ e. e) (λ e. absurd (both_ways (some_runs f.running) (h.unused e).running runs))
+running-negotiated f h runs = grind arith
 
 abbrev pub serves_remote : Facts → Bool
 serves_remote f = not (is_outbound f) || is_duplex f

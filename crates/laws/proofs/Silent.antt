@@ -70,8 +70,7 @@ module _ {X : Type 0} (by : Action → List X) (deaf : Deaf by) where
 
   -- a connection that comes is told of, and its name
   coming-silent : (first : Action) (cid : Cid) (name : StateName) (rest : List Action) → by first ≡ [] → flat_map by rest ≡ [] → flat_map by (first ∷ State cid name ∷ rest) ≡ []
-  coming-silent first cid name rest none more =
-      more-silent first (State cid name ∷ rest) none (more-silent (State cid name) rest (deaf.state cid name) more)
+  coming-silent first cid name rest none more = grind arith
 
   admitted-silent : ((cid : Cid) (addr : Addr) → by (Admit cid addr) ≡ []) → ((length : ℕ) → by (Pause length) ≡ []) → (addr : Addr) (m : Machine) →
       flat_map by (admitted addr m).actions ≡ []
@@ -174,5 +173,4 @@ module _ {X : Type 0} (by : Action → List X) (deaf : Deaf by) where
 
 -- where roots are asked for, that alone is told
 pub asks-silent : {X : Type 0} (by : Action → List X) → ((job : Job) → by (AskRoots job) ≡ []) → (m : Machine) → flat_map by (asks_roots m).actions ≡ []
-asks-silent by unasked m = cond_both (may_ask m.now m.targets.root m.roots) (tells (AskRoots (record { 0 = m.roots.next_job }) ∷ []) (record m { roots = asked m.roots })) (nothing_more m)
-    (λ effect. flat_map by effect.actions ≡ []) (λ too_few. ap (λ xs. xs ++ []) (unasked (record { 0 = m.roots.next_job }))) (λ enough. refl)
+asks-silent by unasked m = grind arith

@@ -33,16 +33,12 @@ no_sends (other ∷ actions) none = no_sends actions none
 -- whom the first ones close, those behind them send nothing to
 both-last : (xs ys : List Action) → ClosesLast xs → ClosesLast ys → AllByRecursion (λ end. sent_on end.cid (sent_in ys) ≡ []) (closes_in xs) → ClosesLast (xs ++ ys)
 both-last [] ys one two apart = two
-both-last (Close cid cause ∷ xs) ys one two apart = (
-  ap (sent_on cid.0) (flat_map-append sent_by xs ys) ∙ (filter-append (λ s. s.cid == cid.0) (sent_in xs) (sent_in ys) ∙ (λ i. one.0 i ++ apart.0 i)),
-  both-last xs ys one.1 two apart.1,
-)
+both-last (Close cid cause ∷ xs) ys one two apart = grind (arith, flat_map-append sent_by xs ys, filter-append (λ s. s.cid == cid.0) (sent_in xs) (sent_in ys), both-last xs ys one.1 two apart.1)
 both-last (other ∷ xs) ys one two apart = both-last xs ys one two apart
 
 none_on : (Open : ℕ → Type 0) (cid : ℕ) (sent : List Sent) → (Open cid → ⊥) → AllByRecursion (λ s. Open s.cid) sent → sent_on cid sent ≡ []
 none_on Open cid [] shut open_ = refl
-none_on Open cid (s ∷ sent) shut open_ = cond_both (s.cid == cid) (s ∷ sent_on cid sent) (sent_on cid sent) (λ xs. xs ≡ [])
-    (λ same. absurd (shut (subst Open (eqb-true s.cid cid same) open_.0))) (λ other. none_on Open cid sent shut open_.1)
+none_on Open cid (s ∷ sent) shut open_ = grind (arith, none_on Open cid sent shut open_.1)
 
 -- Each is sent to one that is open before, whoever is closed is open no more, and that is the last of it.
 record Said (Before After : ℕ → Type 0) (actions : List Action) : Type 0 where
@@ -52,14 +48,7 @@ record Said (Before After : ℕ → Type 0) (actions : List Action) : Type 0 whe
 
 -- where nobody comes to be open
 said_then : (A B C : ℕ → Type 0) (xs ys : List Action) → ((cid : ℕ) → B cid → A cid) → ((cid : ℕ) → C cid → B cid) → Said A B xs → Said B C ys → Said A C (xs ++ ys)
-said_then A B C xs ys early late one two = record {
-  to_open = subst (AllByRecursion (λ s. A s.cid)) (sym (flat_map-append sent_by xs ys))
-      (all-appended (λ s. A s.cid) (sent_in xs) (sent_in ys) one.to_open (all-weaker (λ s. B s.cid) (λ s. A s.cid) (λ s. early s.cid) (sent_in ys) two.to_open));
-  closed = subst (AllByRecursion (λ end. C end.cid → ⊥)) (sym (flat_map-append closed_by xs ys)) (all-appended (λ end. C end.cid → ⊥) (closes_in xs) (closes_in ys)
-      (all-weaker (λ end. B end.cid → ⊥) (λ end. C end.cid → ⊥) (λ end shut open_. shut (late end.cid open_)) (closes_in xs) one.closed) two.closed);
-  last = both-last xs ys one.last two.last (all-weaker (λ end. B end.cid → ⊥) (λ end. sent_on end.cid (sent_in ys) ≡ [])
-      (λ end shut. none_on B end.cid (sent_in ys) shut two.to_open) (closes_in xs) one.closed);
-}
+said_then A B C xs ys early late one two = grind (arith, flat_map-append, all-appended, all-weaker, both-last, none_on)
 
 -- ---- a part
 
@@ -73,15 +62,11 @@ record Spoken (m : Machine) (effect : Effect) : Type 0 where
 -- where nothing is sent, and whoever is closed is open no more
 unsaid-spoken : (m : Machine) (effect : Effect) → sent_in effect.actions ≡ [] → AllByRecursion (λ end. IsOpen effect.machine end.cid → ⊥) (closes_in effect.actions) →
     ((cid : ℕ) → IsOpen effect.machine cid → IsOpen m cid) → Spoken m effect
-unsaid-spoken m effect none closed back = record {
-  said = record { to_open = subst (AllByRecursion (λ s. IsOpen m s.cid)) (sym none) tt; closed = closed; last = no_sends effect.actions none };
-  back = back;
-}
+unsaid-spoken m effect none closed back = grind (arith, no_sends)
 
 -- where nobody is closed either
 quiet-spoken : (m : Machine) (effect : Effect) → sent_in effect.actions ≡ [] → closes_in effect.actions ≡ [] → ((cid : ℕ) → IsOpen effect.machine cid → IsOpen m cid) → Spoken m effect
-quiet-spoken m effect none nobody back =
-    unsaid-spoken m effect none (subst (AllByRecursion (λ end. IsOpen effect.machine end.cid → ⊥)) (sym nobody) tt) back
+quiet-spoken m effect none nobody back = grind (arith, unsaid-spoken m effect none (subst (AllByRecursion (λ end. IsOpen effect.machine end.cid → ⊥)) (sym nobody) tt) back)
 
 same-back : (m n : Machine) → n.connections ≡ m.connections → (cid : ℕ) → IsOpen n cid → IsOpen m cid
 same-back m n same cid open_ = subst (λ es. IsOpen (record m { connections = es }) cid) same open_
@@ -91,17 +76,14 @@ turned-back : (e new : Entry) (m : Machine) → entry_at e.facts.cid.0 m ≡ Som
 turned-back e new m found same back cid open_ = grind (arith, found, same, back, open_, replaced cid new m.connections)
 
 gone-back : (e : Entry) (m n : Machine) → n.connections ≡ (without_entry e.facts.cid.0 m).connections → (cid : ℕ) → IsOpen n cid → IsOpen m cid
-gone-back e m n same cid open_ =
-    let there : IsOpen (without_entry e.facts.cid.0 m) cid = same-back (without_entry e.facts.cid.0 m) n same cid open_ in
-    grind (arith, there, gone-found cid e.facts.cid.0 m.connections)
+gone-back e m n same cid open_ = grind (arith, same-back, gone-found)
 
 turned-spoken : (e new : Entry) (m : Machine) → entry_at e.facts.cid.0 m ≡ Some e → new.facts.cid ≡ e.facts.cid → (is_live new.facts ≡ true → is_live e.facts ≡ true) → Spoken m (entry_turns e new m)
 turned-spoken e new m found same back =
     quiet-spoken m (entry_turns e new m) (turns-silent sent_by sent-deaf e new m) (grind arith) (turned-back e new m found same back)
 
 changed-spoken : (addr : Addr) (change : Peer → Peer) (m : Machine) → Spoken m (peer_changes addr change m)
-changed-spoken addr change m = quiet-spoken m (peer_changes addr change m) (changed-silent sent_by sent-deaf (peer_at addr m) change m) (grind arith)
-    (same-back m (peer_changes addr change m).machine (turns_at-connections (peer_at addr m) change m))
+changed-spoken addr change m = grind arith
 
 lost-nobody : (cause : CloseCause) (e : Entry) (m : Machine) → closes_in (lost_by cause e.facts m).actions ≡ []
 lost-nobody cause e m = grind arith
@@ -139,10 +121,7 @@ spoken-kept scope undialed shut = record {
 -- ---- each act
 
 spoken-speaks : (m : Machine) (effect : Effect) → Spoken m effect → Speaks m effect
-spoken-speaks m effect h = record {
-  to_open = all-weaker (λ s. IsOpen m s.cid) (λ s. stage_at s.cid m ≤ 3) (λ s. live-stage (entry_at s.cid m) (nat_lt s.cid m.next_id)) (sent_in effect.actions) h.said.to_open;
-  closes_last = h.said.last;
-}
+spoken-speaks m effect h = grind (arith, all-weaker, live-stage)
 
 unsaid-speaks : (m : Machine) (effect : Effect) → sent_in effect.actions ≡ [] → Speaks m effect
 unsaid-speaks m effect none = record { to_open = subst (AllByRecursion (λ s. stage_at s.cid m ≤ 3)) (sym none) tt; closes_last = no_sends effect.actions none }
@@ -192,13 +171,7 @@ late_ends n (end ∷ ends) late =
     by_id cid false none = none
 
 closed-late : (causes : List CloseCause) (before after : ℕ) → IsOneEnd causes before after → (causes ≡ [] → ⊥) → 4 ≤ after
-closed-late [] before after one some = absurd (some refl)
-closed-late (cause ∷ []) before after one some = let ended = one.1 in let four : 4 ≤ stage_ended cause = by_cause cause in omega (arith, ended, four)
-  where
-    by_cause : (c : CloseCause) → 4 ≤ stage_ended c
-    by_cause Unused = omega arith
-    by_cause other = omega arith
-closed-late (cause ∷ other ∷ causes) before after one some = absurd one
+closed-late causes before after one some = grind arith
 
 pub speaks_then : (m : Machine) (first : Effect) (next : Machine → Effect) → IsTold m first → Speaks m first → Speaks first.machine (next first.machine) → Speaks m (then_do first next)
 speaks_then m first next told one two =

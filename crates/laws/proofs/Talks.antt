@@ -170,9 +170,7 @@ takes-trimmed o m h within = trimmed_both IsAllowed Within IsLawful (allowed_wit
 -- what is asked of a peer is answered: it is hot
 paid-none : (owed : List Owed) → is_some (find (λ o. o.protocol == 2) (without_reply 2 owed)) ≡ false
 paid-none [] = refl
-paid-none (o ∷ owed) = by_bool (o.protocol == 2)
-    (λ b. is_some (find (λ x. x.protocol == 2) (without_reply 2 owed)) ≡ false → is_some (find (λ x. x.protocol == 2) (cond (not b) (o ∷ without_reply 2 owed) (without_reply 2 owed))) ≡ false)
-    (λ is rest. rest) (λ is rest. rw is rest) (paid-none owed)
+paid-none (o ∷ owed) = grind (arith, paid-none owed)
 
 hot-keeps : (m : Machine) (e : Entry) (k : ℕ) → IsOrdered m → StandsAt m.connections k e → is_live e.facts ≡ true → is_some (reply_on 2 e) ≡ true →
     Keeps 0 m (peer_becomes Hot e.facts.addr (with_entry (paid 2 e) m)).machine
@@ -192,12 +190,7 @@ hot-keeps m e k h s live asked =
     (λ p found tie. subst (λ o. TiedBy m.now (Some (hot p)) o) (sym here) (is_hot p (subst (λ o. TiedBy m.now (Some p) o) was tie))))
   where
     is_hot : (p : Peer) → AreTied m.now p e → AreTied m.now (record p { temp = Hot }) (paid 2 e)
-    is_hot p tie = record {
-      established = sym (ap is_established (tie.asked asked)) ∙ tie.established;
-      in_use = tie.in_use;
-      on_its_way = tie.on_its_way;
-      asked = λ again. absurd (both_ways (is_some (reply_on 2 (paid 2 e))) (paid-none e.owed) again);
-    }
+    is_hot p tie = grind (arith, paid-none e.owed)
 
 paid-lower : (protocol : ℕ) (e : Entry) → IsNoHigher e (paid protocol e)
 paid-lower protocol e = record { up = λ up. up; asked = paid-some (λ o. o.protocol == 2) protocol e.owed }
@@ -229,8 +222,7 @@ hot-accounts m e k h s live asked =
     by_address : (b : Addr) (o : Machine) → (same_address b e.facts.addr ≡ false → peer_at b o ≡ peer_at b m) → NoneConnected m o →
         (c : Bool) → same_address b e.facts.addr ≡ c → is_hot_or_asked b o ≡ true → is_hot_or_asked b m ≡ true
     by_address b o elsewhere connected true is rises = subst (λ a. is_hot_or_asked a m ≡ true) (sym (same_address-true b e.facts.addr is)) here
-    by_address b o elsewhere connected false other rises =
-        or_each (is_hot b o) (is_asked b o) (is_hot b m) (is_asked b m) (λ hot. ap is_hot_peer (sym (elsewhere other)) ∙ hot) (connected.asked b) rises
+    by_address b o elsewhere connected false other rises = grind arith
 
 answered_as-trimmed : (owed : Owed) (item : Item) (m : Machine) (e : Entry) (k : ℕ) → reply_on item.id e ≡ Some owed → Talking m e k →
     Trimmed IsLawful m (then_do (entry_turns e (paid item.id e) m) (brings item.id item.body e))

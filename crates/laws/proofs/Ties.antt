@@ -39,16 +39,13 @@ live_one addr m h i j d before inside here =
     (same_address-true e.facts.addr addr one.0 ∙ sym (same_address-true f.facts.addr addr two.0)))
 
 pub live_here : (m : Machine) (e : Entry) (k : ℕ) → IsOrderly m → StandsAt m.connections k e → is_live e.facts ≡ true → live_entry_at e.facts.addr m ≡ Some e
-live_here m e k h s live =
-    let a : Addr = e.facts.addr in
-    find_only (λ x. is_live_at a x.facts) e m.connections k (live_one a m h.addresses) s (and_from (same_address a a) (is_live e.facts) (same_address-self a) live)
+live_here m e k h s live = grind (arith, find_only, live_one, same_address-self)
 
 not_at : (f : Facts) (b : Addr) → same_address b f.addr ≡ false → is_live_at b f ≡ false
 not_at f b h = ap (λ x. x && is_live f) (same_turned b f.addr h)
 
 not_live : (f : Facts) (b : Addr) → is_live f ≡ false → is_live_at b f ≡ false
-not_live f b h = by_bool (same_address f.addr b) (λ c. (c && is_live f) ≡ false)
-    (λ is. h) (λ is. refl)
+not_live f b h = grind arith
 
 -- the connection that is found there once one of that address has changed
 abbrev pub live_of : Entry → Option Entry
@@ -69,15 +66,7 @@ turned_dead m e new k h s t dead b =
 
 pub turned_here : (m : Machine) (e new : Entry) (k : ℕ) → IsOrderly m → StandsAt m.connections k e → TurnsInto e new → is_live e.facts ≡ true →
     live_entry_at e.facts.addr (with_entry new m) ≡ live_of new
-turned_here m e new k h s t live =
-    let before : is_live_at e.facts.addr e.facts ≡ true = and_from (same_address e.facts.addr e.facts.addr) (is_live e.facts) (same_address-self e.facts.addr) live in
-    ap (find (λ x. is_live_at e.facts.addr x.facts)) (turned-connections m e new k h s t) ∙ by_bool (is_live new.facts)
-    (λ b. find (λ x. is_live_at e.facts.addr x.facts) (set m.connections k new) ≡ (if b then Some new else None))
-    (λ is. find-set_here (λ x. is_live_at e.facts.addr x.facts) new e m.connections k (live_one e.facts.addr m h.addresses) s before
-    (and_from (same_address new.facts.addr e.facts.addr) (is_live new.facts)
-    (subst (λ a. same_address a e.facts.addr ≡ true) (sym t.same_addr) (same_address-self e.facts.addr)) is))
-    (λ is. find-set_gone (λ x. is_live_at e.facts.addr x.facts) new e m.connections k (live_one e.facts.addr m h.addresses) s before
-    (not_live new.facts e.facts.addr is))
+turned_here m e new k h s t live = grind (arith, same_address-self e.facts.addr, turned-connections m e new k h s t, live_one e.facts.addr m h.addresses, find-set_here, find-set_gone, not_live)
 
 pub gone_elsewhere : (m : Machine) (e : Entry) (k : ℕ) → IsOrderly m → StandsAt m.connections k e → (b : Addr) →
     same_address b e.facts.addr ≡ false → live_entry_at b (without_entry e.facts.cid.0 m) ≡ live_entry_at b m
@@ -105,11 +94,7 @@ peer_elsewhere new b (p ∷ ps) other = by_bool (has_address new.addr p)
 
 pub peer_here : (new p : Peer) (ps : List Peer) → peer_in new.addr ps ≡ Some p → peer_in new.addr (with_peer_in new ps) ≡ Some new
 peer_here new p [] found = absurd cc
-peer_here new p (q ∷ ps) found = by_bool (has_address new.addr q)
-    (λ c. cond c (Some q) (peer_in new.addr ps) ≡ Some p →
-    (peer_in new.addr ps ≡ Some p → peer_in new.addr (with_peer_in new ps) ≡ Some new) →
-    peer_in new.addr ((if c then new else q) ∷ with_peer_in new ps) ≡ Some new)
-    (λ e f later. rw (same_address-self new.addr) refl) (λ e f later. rw e (later f)) found (peer_here new p ps)
+peer_here new p (q ∷ ps) found = grind (arith, same_address-self new.addr, peer_here new p ps)
 
 pub found-addr : (a : Addr) (ps : List Peer) (p : Peer) → peer_in a ps ≡ Some p → p.addr ≡ a
 found-addr a ps p found = grind (arith, find_some (has_address a) ps p found, same_address-true)
@@ -172,20 +157,11 @@ changed-ties a change m n same now peers lives alone step ties = by_peer (peer_a
 
 pub put_in-elsewhere : (new : Peer) (b : Addr) (ps : List Peer) → same_address b new.addr ≡ false → peer_in b (with_new_in new ps) ≡ peer_in b ps
 put_in-elsewhere new b [] other = rw (same_turned b new.addr other) refl
-put_in-elsewhere new b (p ∷ ps) other = by_bool (address_below p.addr new.addr)
-    (λ c. peer_in b (with_new_in new ps) ≡ peer_in b ps → peer_in b (if c then p ∷ with_new_in new ps else new ∷ p ∷ ps) ≡ peer_in b (p ∷ ps))
-    (λ is rest. ap (λ o. cond (has_address b p) (Some p) o) rest) (λ is rest. rw (same_turned b new.addr other) refl) (put_in-elsewhere new b ps other)
+put_in-elsewhere new b (p ∷ ps) other = grind (arith, same_turned b new.addr other, put_in-elsewhere new b ps other)
 
 pub put_in-here : (new : Peer) (ps : List Peer) → peer_in new.addr ps ≡ None → peer_in new.addr (with_new_in new ps) ≡ Some new
 put_in-here new [] none = rw (same_address-self new.addr) refl
-put_in-here new (p ∷ ps) none = by_there (has_address new.addr p) refl none (put_in-here new ps)
-  where
-    by_there : (c : Bool) → has_address new.addr p ≡ c → cond c (Some p) (peer_in new.addr ps) ≡ None →
-        (peer_in new.addr ps ≡ None → peer_in new.addr (with_new_in new ps) ≡ Some new) → peer_in new.addr (with_new_in new (p ∷ ps)) ≡ Some new
-    by_there true e f later = absurd cc
-    by_there false e f later = by_bool (address_below p.addr new.addr)
-        (λ c. peer_in new.addr (with_new_in new ps) ≡ Some new → peer_in new.addr (if c then p ∷ with_new_in new ps else new ∷ p ∷ ps) ≡ Some new)
-        (λ is rest. rw e rest) (λ is rest. rw (same_address-self new.addr) refl) (later f)
+put_in-here new (p ∷ ps) none = grind (arith, put_in-here new ps, same_address-self new.addr)
 
 pub none_there : (o : Option Peer) → is_some o ≡ false → o ≡ None
 none_there None h = refl
@@ -219,9 +195,7 @@ taken-elsewhere addr b (p ∷ ps) other = by_bool (same_address p.addr addr)
 
 pub taken-here : (addr : Addr) (ps : List Peer) → peer_in addr (without_peer addr ps) ≡ None
 taken-here addr [] = refl
-taken-here addr (p ∷ ps) = by_bool (same_address p.addr addr)
-    (λ c. peer_in addr (without_peer addr ps) ≡ None → peer_in addr (cond (not c) (p ∷ without_peer addr ps) (without_peer addr ps)) ≡ None)
-    (λ e rest. rest) (λ e rest. rw e rest) (taken-here addr ps)
+taken-here addr (p ∷ ps) = grind (arith, taken-here addr ps)
 
 pub taken-ties : (addr : Addr) (m : Machine) → TiedBy m.now None (live_entry_at addr m) → IsTied m → IsTied (record m { peers = without_peer addr m.peers })
 taken-ties addr m alone ties =
@@ -235,8 +209,7 @@ find-push_other p new [] h = rw h refl
 find-push_other p new (x ∷ xs) h = ap (λ o. cond (p x) (Some x) o) (find-push_other p new xs h)
 
 pub find-push_here : {X : Type 0} (p : X → Bool) (new : X) (xs : List X) → find p xs ≡ None → p new ≡ true → find p (xs ++ new ∷ []) ≡ Some new
-find-push_here p new xs none h =
-    find-append p xs (new ∷ []) ∙ (ap (λ o. option_or o (cond (p new) (Some new) None)) none ∙ ap (λ b. cond b (Some new) None) h)
+find-push_here p new xs none h = grind (arith, find-append)
 
 pub come_elsewhere : (m : Machine) (new : Entry) (b : Addr) → same_address b new.facts.addr ≡ false → live_entry_at b (with_new new m) ≡ live_entry_at b m
 come_elsewhere m new b other = find-push_other (λ e. is_live_at b e.facts) new m.connections (not_at new.facts b other)

@@ -29,8 +29,7 @@ placed ReservedOutbound = refl
 placed other = refl
 
 same_name-true : (a b : StateName) → same_name a b ≡ true → a ≡ b
-same_name-true a b h =
-    sym (placed a) ∙ (ap (λ n. get_or all_names n Terminated) (eqb-true (name_place a) (name_place b) h) ∙ placed b)
+same_name-true a b h = grind arith
 
 -- no entry is called terminated
 stands-named : (f : Facts) → same_name (name_of f) Terminated ≡ false
@@ -42,8 +41,7 @@ named-stands f = ne_eqb 11 (name_place (name_of f)) (λ same. both_ways (same_na
 -- one notice, where it names the connection
 one_name : (cid : ℕ) (other : Cid) (before name : StateName) → (other.0 == cid) ≡ true → same_name before name ≡ false →
     LeadTo is_other_name same_state before (names_in cid (State other name ∷ [])) name
-one_name cid other before name own differs =
-    subst (λ c. LeadTo is_other_name same_state before ((if c then name ∷ [] else []) ++ []) name) (sym own) (ap not differs, refl)
+one_name cid other before name own differs = grind arith
 
 no_name : (cid : ℕ) (other : Cid) (name : StateName) → (other.0 == cid) ≡ false → names_in cid (State other name ∷ []) ≡ []
 no_name cid other name apart = ap (λ c. (if c then name ∷ [] else []) ++ []) apart
@@ -125,17 +123,8 @@ goes-told m e k h s =
     list = gone-connections m e k h s
 
     by_id : (cid : ℕ) (b : Bool) → has_id cid e.facts ≡ b → GoesOn cid m (entry_goes e m)
-    by_id cid true own =
-        let one : OnePasses (λ x. has_id cid x.facts) m.connections = one_has_id cid m.connections h.ids_rise in
-        let given : nat_lt cid m.next_id ≡ true = is_given m e k cid h s own in
-        let most : stage_of_phase e.facts.phase ≤ 4 = open_stage e.facts.phase in
-        went_on cid m (entry_goes e m) (Some e) None (find_only (λ x. has_id cid x.facts) e m.connections k one s own)
-        (ap (find (λ x. has_id cid x.facts)) list ∙ find-remove_here (λ x. has_id cid x.facts) e m.connections k one s own) refl tt
-        (one_name cid e.facts.cid (name_of e.facts) Terminated own (stands-named e.facts))
-        (subst (λ b. stage_of_phase e.facts.phase ≤ (if b then 5 else 0)) (sym given) (omega (arith, most)))
-    by_id cid false other =
-        went_untold cid m (entry_goes e m) (ap (find (λ x. has_id cid x.facts)) list ∙ find-remove_other (λ x. has_id cid x.facts) e m.connections k s other) refl
-        (no_name cid e.facts.cid Terminated other) (omega arith)
+    by_id cid true own = grind (arith, one_has_id, is_given, open_stage, one_name, stands-named, went_on, find_only, list, find-remove_here)
+    by_id cid false other = grind (arith, went_untold, find-remove_other, no_name, list)
 
 pub goes-stage : (m : Machine) (e : Entry) (k : ℕ) → IsOrderly m → StandsAt m.connections k e → stage_at e.facts.cid.0 (without_entry e.facts.cid.0 m) ≡ 5
 goes-stage m e k h s = grind (arith, has_own_id, gone-connections, one_has_id, find-remove_here, is_given)
@@ -249,8 +238,7 @@ changes_temp t other h = ap not h
 
 one_note : (a other : Addr) (before after : Option Temp) (note : PeerNote) → same_address other a ≡ true → is_change before note ≡ true → noted note ≡ after →
     LeadTo is_change noted before (notes_in a (TellPeer other note ∷ [])) after
-one_note a other before after note own changes says =
-    subst (λ c. LeadTo is_change noted before ((if c then note ∷ [] else []) ++ []) after) (sym own) (changes, says)
+one_note a other before after note own changes says = grind arith
 
 no_note : (a other : Addr) (note : PeerNote) → same_address other a ≡ false → notes_in a (TellPeer other note ∷ []) ≡ []
 no_note a other note apart = ap (λ c. (if c then note ∷ [] else []) ++ []) apart
@@ -309,17 +297,11 @@ changes-told a change m same =
   where
     by_peer : (o : Option Peer) → peer_at a m ≡ o → LeadTo is_change noted (temp_of o) (notes_in a (turns_at o change m).actions) (temp_of (option_map change o))
     by_peer None is = refl
-    by_peer (Some p) is = cond_both (same_temp p.temp (change p).temp) [] (TellPeer p.addr (note_of (change p).temp) ∷ [])
-        (λ actions. LeadTo is_change noted (Some p.temp) (notes_in a actions) (Some (change p).temp)) (λ still. ap Some (is_temp p.temp (change p).temp still))
-        (λ turns. one_note a p.addr (Some p.temp) (Some (change p).temp) (note_of (change p).temp)
-        (subst (λ x. same_address p.addr x ≡ true) (found-addr a m.peers p is) (same_address-self p.addr)) (changes_temp p.temp (change p).temp turns) (noted_temp (change p).temp))
+    by_peer (Some p) is = grind (arith, found-addr a m.peers p is, same_address-self p.addr, noted_temp (change p).temp, is_temp, one_note, changes_temp)
 
     other_note : (b : Addr) → same_address b a ≡ false → (o : Option Peer) → peer_at a m ≡ o → notes_in b (turns_at o change m).actions ≡ []
     other_note b other None is = refl
-    other_note b other (Some p) is =
-        let apart : same_address p.addr b ≡ false = subst (λ x. same_address x b ≡ false) (sym (found-addr a m.peers p is)) (same_turned b a other) in
-        cond_both (same_temp p.temp (change p).temp) [] (TellPeer p.addr (note_of (change p).temp) ∷ []) (λ actions. notes_in b actions ≡ [])
-        (λ still. refl) (λ turns. no_note b p.addr (note_of (change p).temp) apart)
+    other_note b other (Some p) is = grind (arith, found-addr a m.peers p is, same_turned b a other, no_note)
 
 -- ---- a peer comes and goes
 

@@ -127,8 +127,7 @@ dialed-becomes opened e m is = by_tests (is_dialing e.facts) opened
     by_tests false c = stands-becomes e m is
 
 closes-becomes : (e : Entry) (m : Machine) → entry_at e.facts.cid.0 m ≡ Some e → Becomes (Some e) e.facts.cid.0 (closes e m).machine
-closes-becomes e m is = cond_both (is_live e.facts) (vanishes e m) (nothing_more m) (λ effect. Becomes (Some e) e.facts.cid.0 effect.machine)
-    (λ live. vanishes-becomes (Some e) e m) (λ closed. stands-becomes e m is)
+closes-becomes e m is = grind (arith, vanishes-becomes (Some e) e m, stands-becomes e m is)
 
 faulted-becomes : (fault : Option CutFault) (e : Entry) (m : Machine) → entry_at e.facts.cid.0 m ≡ Some e → Becomes (Some e) e.facts.cid.0 (faulted fault e m).machine
 faulted-becomes None e m is = stands-becomes e m is
@@ -284,11 +283,7 @@ orders-become (Promote addr) m e o = promotes-becomes addr m e o
 orders-become (Release addr) m e o = used-becomes addr release (record e { facts = released (m.now + m.settings.idle) e.facts }) m e o
     (λ g stands. release-walk (alone g) (Waited (alone g)) (waits-kept (alone g)) g m stands) (release-becomes e m (given_id m e o.ordered o.is))
 orders-become (Activate addr) m e o = used-becomes addr activates (owing 2 0 m e) m e o (λ g stands. activates-walk (alone g) (Waited (alone g)) (waits-kept (alone g)) g m stands) (turned-becomes e (owing 2 0 m e) m refl)
-orders-become (Deactivate addr) m e o = by_option (find (is_used_at addr) m.connections)
-    (λ found. Becomes (Some e) e.facts.cid.0 (on_entry found deactivates m).machine)
-    (λ is. stands-becomes e m o.is)
-    (λ g is. then-becomes (Some e) e.facts.cid.0 m (deactivates g m).machine (given_id m e o.ordered o.is) (stands-becomes e m o.is)
-    (changed-waits nobody (peer_at g.facts.addr m) (λ p. record p { temp = Warm }) m))
+orders-become (Deactivate addr) m e o = grind arith
 
 -- ---- each act
 
@@ -304,13 +299,7 @@ part-becomes (carries order) m found cid e own is =
     subst (λ c. Becomes (Some (turned_by_order order e m)) c (carries_out order m).machine) mine
     (orders-become order m e (record { ordered = found; is = subst (λ c. entry_at c m ≡ Some e) (sym mine) is; here = subst (λ o. is_with (address_of order) o ≡ true) is own }))
 part-becomes (ends_dial own_id opened) m found cid e own is = own-becomes (turned (ends_dial own_id opened) e m) own_id.0 cid (dialed opened) m e own is (λ here. dialed-becomes opened e m here)
-part-becomes (stores entry undecoded) m found cid e own is =
-    let same : entry.facts.cid.0 ≡ cid = eqb-true entry.facts.cid.0 cid own in
-    let one : Some entry ≡ Some e = sym found ∙ (ap (λ c. entry_at c m) same ∙ is) in
-    let it : entry ≡ e = cc in
-    subst (λ x. Becomes (Some (record x { undecoded = undecoded })) cid (with_entry (record entry { undecoded = undecoded }) m)) it
-    (subst (λ c. Becomes (Some (record entry { undecoded = undecoded })) c (with_entry (record entry { undecoded = undecoded }) m)) same
-    (turned-becomes entry (record entry { undecoded = undecoded }) m refl))
+part-becomes (stores entry undecoded) m found cid e own is = grind (arith, turned-becomes)
 part-becomes (handles_item own_id item) m found cid e own is =
     own-becomes (turned_by_item e.facts.phase item e m) own_id.0 cid (handled item) m e own is (λ here. handled-becomes e.facts.phase item e m (given_id m e found here) here)
 part-becomes (ends_stream own_id fault) m found cid e own is = own-becomes (Some e) own_id.0 cid (faulted fault) m e own is (λ here. faulted-becomes fault e m here)

@@ -18,11 +18,7 @@ kept whole None = tt
 kept whole (Some until) = inl refl
 
 wait_then : (whole : ℕ) (a b c : Option ℕ) → IsWait whole a b → IsWait whole b c → IsWait whole a c
-wait_then whole a b None one two = tt
-wait_then whole a b (Some until) one two = elim two [
-  | inl same ↦ subst (IsWait whole a) same one
-  | inr new ↦ inr new
-]
+wait_then whole a b c one two = grind arith
 
 -- ---- what is left as it was
 
@@ -39,16 +35,7 @@ bytes_same drops None = tt
 bytes_same drops (Some e) = inl refl
 
 bytes_then : (drops : Bool) (a b c : Option Entry) → KeepsBytes drops a b → KeepsBytes drops b c → KeepsBytes drops a c
-bytes_then drops a b None one two = tt
-bytes_then drops a None (Some f) one two = elim two [ ]
-bytes_then drops None (Some g) (Some f) one two = elim one [ ]
-bytes_then drops (Some e) (Some g) (Some f) one two = elim two [
-  | inl same ↦ elim one [
-    | inl before ↦ inl (same ∙ before)
-    | inr dropped ↦ inr (dropped.0, same ∙ dropped.1)
-  ]
-  | inr dropped ↦ inr dropped
-]
+bytes_then drops a b c one two = grind arith
 
 -- ---- a part of a step
 
@@ -59,11 +46,7 @@ pub record GoesOn (scope : Scope) (m : Machine) (cid : ℕ) (before after : Opti
   pub bytes : scope.comes cid ≡ false → cid < m.next_id → KeepsBytes scope.drops before after
 
 on_same : (scope : Scope) (m : Machine) (cid : ℕ) (o : Option Entry) → GoesOn scope m cid o o
-on_same scope m cid o = record {
-  waits = λ kind. kept (m.now + length_of kind m.settings) (until_in kind o);
-  others = λ own given. was_same o;
-  bytes = λ none given. bytes_same scope.drops o;
-}
+on_same scope m cid o = grind arith
 
 -- where nothing is set
 pub record Waits (scope : Scope) (before after : Machine) : Type 0 where
@@ -72,26 +55,7 @@ pub record Waits (scope : Scope) (before after : Machine) : Type 0 where
   pub each : (cid : ℕ) → GoesOn scope before cid (entry_at cid before) (entry_at cid after)
 
 pub waits_then : (scope : Scope) (m n o : Machine) → Waits scope m n → Waits scope n o → Waits scope m o
-waits_then scope m n o one two = record {
-  unset = record {
-    now = two.unset.now ∙ one.unset.now;
-    settings = two.unset.settings ∙ one.unset.settings;
-    targets = two.unset.targets ∙ one.unset.targets;
-    big_targets = two.unset.big_targets ∙ one.unset.big_targets;
-    groups = two.unset.groups ∙ one.unset.groups;
-    roots = two.unset.roots ∙ one.unset.roots;
-  };
-  next = omega (arith, one.next, two.next);
-  each = λ cid. record {
-    waits = λ kind. wait_then (m.now + length_of kind m.settings) (until_at kind cid m) (until_at kind cid n) (until_at kind cid o) ((one.each cid).waits kind)
-        (subst (λ s. IsWait (m.now + length_of kind s) (until_at kind cid n) (until_at kind cid o)) one.unset.settings
-        (subst (λ t. IsWait (t + length_of kind n.settings) (until_at kind cid n) (until_at kind cid o)) one.unset.now ((two.each cid).waits kind)));
-    others = λ own given. was_then (entry_at cid m) (entry_at cid n) (entry_at cid o) ((one.each cid).others own given)
-        ((two.each cid).others own (omega (arith, given, one.next)));
-    bytes = λ none given. bytes_then scope.drops (entry_at cid m) (entry_at cid n) (entry_at cid o) ((one.each cid).bytes none given)
-        ((two.each cid).bytes none (omega (arith, given, one.next)));
-  };
-}
+waits_then scope m n o one two = grind arith
 
 -- connections and peers may be others
 unchanged : (es : List Entry) (ps : List Peer) (next : ℕ) (m : Machine) → IsUnset m (record m { connections = es; peers = ps; next_id = next })
@@ -125,11 +89,7 @@ waits_turned scope m e new found mine same right stay = record {
 }
   where
     by_id : (cid : ℕ) → e.facts.cid.0 ≡ cid → GoesOn scope m cid (entry_at cid m) (option_map (λ x. new) (entry_at cid m))
-    by_id cid is = subst (λ c. GoesOn scope m c (entry_at c m) (option_map (λ x. new) (entry_at c m))) is (rw found (record {
-      waits = right;
-      others = λ own given. absurd (both_ways (scope.own e.facts.cid.0) own mine);
-      bytes = λ none given. stay none;
-    }))
+    by_id cid is = grind arith
 
 pub waits_gone : (scope : Scope) (m : Machine) (cid : ℕ) → Waits scope m (without_entry cid m)
 waits_gone scope m cid = record {
@@ -143,20 +103,7 @@ waits_gone scope m cid = record {
 pub waits_come : (scope : Scope) (m : Machine) (new : Entry) → new.facts.cid.0 ≡ m.next_id →
     ((kind : Kind) → IsWait (m.now + length_of kind m.settings) None (until_of kind new)) →
     Waits scope m (record m { connections = m.connections ++ new ∷ []; next_id = m.next_id + 1 })
-waits_come scope m new id right = record {
-  unset = unchanged (m.connections ++ new ∷ []) m.peers (m.next_id + 1) m;
-  next = omega arith;
-  each = λ c. subst (GoesOn scope m c (entry_at c m)) (sym (find-append (λ e. has_id c e.facts) m.connections (new ∷ []))) (by_found c (entry_at c m) (has_id c new.facts) refl);
-}
-  where
-    -- an id that was given before finds what it did
-    not_given : (c : ℕ) → has_id c new.facts ≡ true → c < m.next_id → ⊥
-    not_given c is given = let same = eqb-true new.facts.cid.0 c is in omega (arith, same, id, given)
-
-    by_found : (c : ℕ) (o : Option Entry) (b : Bool) → has_id c new.facts ≡ b → GoesOn scope m c o (option_or o (cond b (Some new) None))
-    by_found c (Some e) b is = on_same scope m c (Some e)
-    by_found c None false is = on_same scope m c None
-    by_found c None true is = record { waits = right; others = λ own given. absurd (not_given c is given); bytes = λ none given. absurd (not_given c is given) }
+waits_come scope m new id right = grind (arith, unchanged, find-append, on_same)
 
 -- ---- what is owed
 
@@ -182,19 +129,15 @@ owing-until p protocol asked m e = ap until_paid found ∙ by_tests (protocol ==
 
     by_tests : (b : Bool) → (protocol == p) ≡ b → (a : Bool) → nat_lt p protocol ≡ a → (c : Bool) → nat_lt protocol p ≡ c → (o : Option Owed) →
         until_paid (option_or (if a then o else None) (cond b (Some new) (if c then o else None))) ≡ (if b then Some (m.now + m.settings.reply) else until_paid o)
-    by_tests true same true lower c upper o =
-        let never : true ≡ false = sym lower ∙ (ap (nat_lt p) (eqb-true protocol p same) ∙ not_below p) in absurd cc
+    by_tests true same true lower c upper o = grind arith
     by_tests false other true lower true upper None = refl
     by_tests false other true lower false upper None = refl
-    by_tests false other false lower false upper o =
-        let never : (protocol == p) ≡ true = grind (arith, lower, upper) in absurd (let wrong : true ≡ false = sym never ∙ other in cc)
+    by_tests false other false lower false upper o = grind arith
     by_tests b is a lower c upper o = refl
 
 pub owing-right : (p protocol asked : ℕ) (m : Machine) (e : Entry) →
     IsWait (m.now + m.settings.reply) (until_paid (reply_on p e)) (until_paid (reply_on p (owing protocol asked m e)))
-owing-right p protocol asked m e = subst (IsWait (m.now + m.settings.reply) (until_paid (reply_on p e))) (sym (owing-until p protocol asked m e)) (by_bool (protocol == p)
-    (λ b. IsWait (m.now + m.settings.reply) (until_paid (reply_on p e)) (if b then Some (m.now + m.settings.reply) else until_paid (reply_on p e)))
-    (λ is. inr refl) (λ is. kept (m.now + m.settings.reply) (until_paid (reply_on p e))))
+owing-right p protocol asked m e = grind (arith, owing-until, kept)
 
 -- it is paid
 pub paid-until : (p protocol : ℕ) (e : Entry) → until_paid (reply_on p (paid protocol e)) ≡ (if protocol == p then None else until_paid (reply_on p e))
@@ -209,6 +152,4 @@ paid-until p protocol e =
     by_tests b c same = absurd cc
 
 pub paid-right : (p protocol : ℕ) (whole : ℕ) (e : Entry) → IsWait whole (until_paid (reply_on p e)) (until_paid (reply_on p (paid protocol e)))
-paid-right p protocol whole e = subst (IsWait whole (until_paid (reply_on p e))) (sym (paid-until p protocol e)) (by_bool (protocol == p)
-    (λ b. IsWait whole (until_paid (reply_on p e)) (if b then None else until_paid (reply_on p e)))
-    (λ is. tt) (λ is. kept whole (until_paid (reply_on p e))))
+paid-right p protocol whole e = grind (arith, paid-until, kept)

@@ -52,20 +52,11 @@ decodes-right m e undecoded other = same-right m e other
 turned-right : (turn : Turn) (e : Entry) (m : Machine) → TurnsRight m e (turned_by turn e m)
 turned-right opens e m = opens-right m e
 turned-right (agrees_inbound agreed) e m = negotiated-right m e (agreed_inbound agreed (m.now + m.settings.idle) e.facts) refl (inr refl)
-turned-right (agrees_outbound agreed) e m =
-    owing_too-right 8 (e.facts.cid.0 % 65536) m e (agreed_outbound agreed (m.now + m.settings.idle) e.facts)
-    (negotiated-right m e (agreed_outbound agreed (m.now + m.settings.idle) e.facts) refl
-    (cond_both agreed.initiator_only Off (ForRemote (m.now + m.settings.idle)) (λ g. IsWait (m.now + m.settings.idle) (until_unused e.facts.grace) (until_unused g))
-    (λ alone. tt) (λ both. inr refl)))
-turned-right is_acquired e m =
-    owing_too-right 8 (e.facts.cid.0 % 65536) m e (acquired e.facts) (graced-right m e (acquired e.facts) refl (kept (m.now + m.settings.idle) (until_unused e.facts.grace)))
-turned-right is_released e m = graced-right m e (released (m.now + m.settings.idle) e.facts) refl
-    (cond_both (some_runs e.facts.running || is_for_remote e.facts.grace) e.facts.grace (ForLocal (m.now + m.settings.idle))
-    (λ g. IsWait (m.now + m.settings.idle) (until_unused e.facts.grace) (until_unused g)) (λ stays. kept (m.now + m.settings.idle) (until_unused e.facts.grace)) (λ other. inr refl))
+turned-right (agrees_outbound agreed) e m = grind (arith, owing_too-right, negotiated-right)
+turned-right is_acquired e m = grind (arith, owing_too-right, graced-right, kept)
+turned-right is_released e m = grind arith
 turned-right (awakes protocol) e m = graced-right m e (awakened protocol e.facts) refl tt
-turned-right (idles protocol) e m = graced-right m e (idled protocol (m.now + m.settings.idle) e.facts) refl
-    (cond_both (some_runs (with_responder protocol false e.facts.running)) e.facts.grace (ForRemote (m.now + m.settings.idle))
-    (λ g. IsWait (m.now + m.settings.idle) (until_unused e.facts.grace) (until_unused g)) (λ runs. kept (m.now + m.settings.idle) (until_unused e.facts.grace)) (λ other. inr refl))
+turned-right (idles protocol) e m = grind arith
 turned-right expires e m = graced-right m e (expired e.facts) refl tt
 turned-right (owes protocol asked) e m = owing_too-right protocol asked m e e.facts (same-right m e)
 turned-right (is_paid protocol) e m = paid_off-right protocol m e
@@ -81,8 +72,7 @@ module _ (scope : Scope) where
   changed-waits (Some p) change m = waits_peers scope (turns_at (Some p) change m).machine.peers m
 
   lost-waits : (f : Facts) (m : Machine) → Waited m (lost f m)
-  lost-waits f m = cond_both (is_missed f) (peer_fails f.addr m) (nothing_more m) (Waited m)
-      (λ missed. changed-waits (peer_at f.addr m) (failed_peer m.now m.settings.backoff) m) (λ other. waits_nothing scope m)
+  lost-waits f m = grind (arith, changed-waits, waits_nothing)
 
   lost_by-waits : (cause : CloseCause) (f : Facts) (m : Machine) → Waited m (lost_by cause f m)
   lost_by-waits Overwritten f m = waits_nothing scope m
@@ -148,13 +138,7 @@ pub waits-right : (act : Act) (m : Machine) → IsNext act m → Finds act m →
 waits-right act m next found = grind (arith, sets_or_changes act m, scope_of act m, kept, right, act-waits)
 
 pub leaves-rest : (act : Act) (m : Machine) → IsNext act m → Finds act m → LeavesRest act m (does act m).machine
-leaves-rest act m next found = elim (sets_or_changes act m) [
-  | inl same ↦ record {
-    others = λ cid own given. subst (λ es. IsAsItWas (entry_at cid m) (find (λ e. has_id cid e.facts) es)) (sym same) (was_same (entry_at cid m));
-    bytes = λ cid none given. subst (λ es. KeepsBytes (may_close act) (entry_at cid m) (find (λ e. has_id cid e.facts) es)) (sym same) (bytes_same (may_close act) (entry_at cid m));
-  }
-  | inr change ↦ let h = act-waits act m change next found in record { others = λ cid. (h.each cid).others; bytes = λ cid. (h.each cid).bytes }
-]
+leaves-rest act m next found = grind (arith, sets_or_changes, was_same, bytes_same, act-waits)
 
 -- nothing is set by an order
 pub order-waits : (order : Order) (m : Machine) → IsOrdered m → Waits (scope_of (carries order) m) m (does (carries order) m).machine
@@ -166,10 +150,4 @@ pub order-unset : (order : Order) (m : Machine) → IsOrdered m → IsUnset m (d
 order-unset order m h = (order-waits order m h).unset
 
 pub is-set : (act : Act) (m : Machine) → IsNext act m → Finds act m → IsSet act m (does act m).machine
-is-set (shows t) m next found = refl
-is-set asks_for_roots m next found = roots-set m
-is-set (sets_targets targets) m next found = refl
-is-set (sets_big_targets targets) m next found = refl
-is-set (sets_groups groups) m next found = refl
-is-set (sets_roots roots) m next found = refl
-is-set other m next found = (act-waits other m tt next found).unset
+is-set act m next found = grind (arith, roots-set, act-waits)

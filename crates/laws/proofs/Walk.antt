@@ -66,10 +66,7 @@ turned-undecoded other e m = refl
 
 -- and is live still where it was
 pub turned-live : (turn : Turn) (e : Entry) (m : Machine) → is_live e.facts ≡ true → is_live (turned_by turn e m).facts ≡ true
-turned-live opens e m live = refl
-turned-live (agrees_inbound agreed) e m live = refl
-turned-live (agrees_outbound agreed) e m live = refl
-turned-live other e m live = live
+turned-live turn e m live = grind arith
 
 -- one that nobody uses is closed
 abbrev pub shuts : Entry → Machine → Effect
@@ -82,8 +79,7 @@ answer-machine None cid m = refl
 answer-machine (Some bytes) cid m = refl
 
 pub says_done-machine : (f : Facts) (m : Machine) → (says_done f m).machine ≡ m
-says_done-machine f m = cond_both (agreed_sharing f.agreed) (sends_as_initiator f.cid 10 peer_sharing_done m) (nothing_more m) (λ effect. effect.machine ≡ m)
-    (λ sharing. refl) (λ other. refl)
+says_done-machine f m = grind arith
 
 -- one that is released stands so before one too many is pruned
 abbrev pub cooled : Entry → Machine → Machine
@@ -139,9 +135,7 @@ pub record Stands (scope : Scope) (e : Entry) (m : Machine) : Type 0 where
   pub own : scope.own e.facts.cid.0 ≡ true
 
 pub found-stands : (scope : Scope) (cid : ℕ) (m : Machine) (e : Entry) → entry_at cid m ≡ Some e → scope.own cid ≡ true → Stands scope e m
-found-stands scope cid m e is own =
-    let same : cid ≡ e.facts.cid.0 = sym (eqb-true e.facts.cid.0 cid (find_some (λ x. has_id cid x.facts) m.connections e is).passes) in
-    record { found = subst (λ c. entry_at c m ≡ Some e) same is; own = subst (λ c. scope.own c ≡ true) same own }
+found-stands scope cid m e is own = grind (arith, find_some (λ x. has_id cid x.facts) m.connections e is)
 
 -- that stands open, so that it may be spoken to
 pub record StandsOpen (scope : Scope) (e : Entry) (m : Machine) : Type 0 where
@@ -238,8 +232,7 @@ module _ (scope : Scope) (R : Machine → Effect → Type 0) (kept : Kept scope 
   -- ---- a connection that is found
 
   pub on_found : (cid : ℕ) (act : Entry → Machine → Effect) (m : Machine) → ((e : Entry) → entry_at cid m ≡ Some e → R m (act e m)) → R m (on_entry (entry_at cid m) act m)
-  on_found cid act m each = by_option (entry_at cid m) (λ o. R m (on_entry o act m))
-      (λ is. kept.when_nothing m) (λ e is. each e is)
+  on_found cid act m each = grind arith
 
   pub trim-walk : (moved : Cid) (m : Machine) → R m (trim moved m)
   trim-walk moved m = trim-cases moved m (R m) (kept.when_nothing m) (λ e is. kept.when_ended Pruned e m)
@@ -322,13 +315,7 @@ module _ (scope : Scope) (R : Machine → Effect → Type 0) (kept : Kept scope 
       (λ other. kept.when_dialed addr m allows))
 
   pub orders-walk : (order : Order) (m : Machine) → scope.sends ≡ true → Allows scope order → FindsOwn scope (address_of order) m → R m (carries_out order m)
-  orders-walk (Ask addr number) m may allows own = on_used-walk addr (asks_peer number) m may own (λ e s. asks_peer-walk number e m s)
-  orders-walk (Forget addr) m may allows own = kept.when_forgotten addr m allows
-  orders-walk (Promote addr) m may allows own = kept.when_moved (promoted addr) m (promoted_at (live_entry_at addr m) addr m) refl (promoted_at-walk addr m may allows own)
-  orders-walk (Release addr) m may allows own = on_used-walk addr release m may own (λ e s. release-walk e m s)
-  orders-walk (Activate addr) m may allows own =
-      kept.when_moved (activated addr) m (on_used addr activates m) refl (on_used-walk addr activates m may own (λ e s. activates-walk e m s))
-  orders-walk (Deactivate addr) m may allows own = on_used-walk addr deactivates m may own (λ e s. deactivates-walk e m s)
+  orders-walk order m may allows own = grind (arith, on_used-walk, asks_peer-walk, promoted_at-walk, release-walk, activates-walk, deactivates-walk)
 
   -- ---- a peer connects, a dial ends, or the other side closes
 
@@ -407,10 +394,8 @@ module _ (scope : Scope) (R : Machine → Effect → Type 0) (kept : Kept scope 
   -- by how far it has come
   pub handled-walk : (p : Phase) (item : Item) (e : Entry) (m : Machine) → e.facts.phase ≡ p → scope.sends ≡ true → scope.brings false ≡ true → Stands scope e m →
       R m (handled_in p item e m)
-  handled-walk (Greeting until) item e m at may may_bring stands =
-      greets-walk item e m (record { may = may; found = stands.found; own = stands.own; live = ap live_phase at })
-  handled-walk Negotiated item e m at may may_bring stands =
-      talks-walk item e m may_bring (record { may = may; found = stands.found; own = stands.own; live = ap live_phase at })
+  handled-walk (Greeting until) item e m at may may_bring stands = grind (arith, greets-walk)
+  handled-walk Negotiated item e m at may may_bring stands = grind (arith, talks-walk)
   handled-walk other item e m at may may_bring stands = kept.when_nothing m
 
   pub faulted-walk : (fault : Option CutFault) (e : Entry) (m : Machine) → R m (faulted fault e m)
@@ -475,11 +460,7 @@ scope_of act m = record {
 
 -- what waits its time is live no more
 waiting-closed : (cid at : ℕ) (m : Machine) (e : Entry) → entry_at cid m ≡ Some e → until_at kind.TimeWait cid m ≡ Some at → is_live e.facts ≡ false
-waiting-closed cid at m e is waits = by_phase e.facts.phase (sym (ap (until_in kind.TimeWait) is) ∙ waits)
-  where
-    by_phase : (p : Phase) → until_gone p ≡ Some at → live_phase p ≡ false
-    by_phase (Closing until) h = refl
-    by_phase other h = absurd cc
+waiting-closed cid at m e is waits = grind arith
 
 pub orderly-finds : (order : Order) (m : Machine) → IsOrderly m → FindsOwn (scope_of (carries order) m) (address_of order) m
 orderly-finds order m h = record {
@@ -488,9 +469,7 @@ orderly-finds order m h = record {
 }
 
 pub allows-order : (order : Order) (m : Machine) → Allows (scope_of (carries order) m) order
-allows-order (Forget addr) m = same_address-self addr
-allows-order (Promote addr) m = refl
-allows-order other m = tt
+allows-order order m = grind arith
 
 pub own_id : (cid : ℕ) → (cid == cid) ≡ true
 own_id cid = eq-eqb cid cid refl
@@ -505,29 +484,14 @@ module _ (act : Act) (m : Machine) (R : Machine → Effect → Type 0) (kept : K
 
 -- Whatever each change keeps holds of each part that sets nothing.
 pub walk : (act : Act) (m : Machine) (R : Machine → Effect → Type 0) → IsChange act → IsNext act m → Finds act m → Kept (scope_of act m) R → R m (does act m)
-walk (fires_one d) m R change next found kept =
-    named-walk (fires_one d) m R kept d.cid.0 (fires_as d.kind) (own_id d.cid.0)
-    (λ e is same stands. fires-walk (scope_of (fires_one d) m) R kept d.kind e m refl stands
-    (λ sort timely. waiting-closed d.cid.0 d.at m e is (subst (λ k. until_at k d.cid.0 m ≡ Some d.at) sort next.waited)))
+walk (fires_one d) m R change next found kept = grind (arith, own_id, named-walk, fires-walk, waiting-closed)
 walk (carries order) m R change next found kept = orders-walk (scope_of (carries order) m) R kept order m refl (allows-order order m) (orderly-finds order m found.orderly)
 walk (connects addr) m R change next found kept = connects-walk (scope_of (connects addr) m) R kept addr m refl
-walk (ends_dial cid opened) m R change next found kept =
-    named-walk (ends_dial cid opened) m R kept cid.0 (dialed opened) (own_id cid.0)
-    (λ e is same stands. dialed-walk (scope_of (ends_dial cid opened) m) R kept opened e m refl stands (itself e is same))
-  where
-    itself : (e : Entry) → entry_at cid.0 m ≡ Some e → cid.0 ≡ e.facts.cid.0 → is_dialing e.facts ≡ true → opened ≡ false → goes_by_itself (ends_dial cid opened) m e.facts.cid.0 ≡ true
-    itself e is same dials failed = subst (λ c. goes_by_itself (ends_dial cid opened) m c ≡ true) same (rw (own_id cid.0, failed, is) dials)
-walk (stores e undecoded) m R change next found kept =
-    kept.when_stored undecoded e m (record { found = found; own = own_id e.facts.cid.0 }) (own_id e.facts.cid.0)
-walk (handles_item cid item) m R change next found kept =
-    named-walk (handles_item cid item) m R kept cid.0 (handled item) (own_id cid.0)
-    (λ e is same stands. handled-walk (scope_of (handles_item cid item) m) R kept e.facts.phase item e m refl refl refl stands)
-walk (ends_stream cid fault) m R change next found kept =
-    named-walk (ends_stream cid fault) m R kept cid.0 (faulted fault) (own_id cid.0) (λ e is same stands. faulted-walk (scope_of (ends_stream cid fault) m) R kept fault e m)
-walk (is_closed cid) m R change next found kept =
-    named-walk (is_closed cid) m R kept cid.0 closes (own_id cid.0)
-    (λ e is same stands. cond_both (is_live e.facts) (vanishes e m) (nothing_more m) (R m)
-    (λ live. kept.when_gone e m (eq-eqb cid.0 e.facts.cid.0 same)) (λ closed. kept.when_nothing m))
+walk (ends_dial cid opened) m R change next found kept = grind (arith, own_id, named-walk, dialed-walk)
+walk (stores e undecoded) m R change next found kept = grind (arith, own_id)
+walk (handles_item cid item) m R change next found kept = grind (arith, own_id, named-walk, handled-walk)
+walk (ends_stream cid fault) m R change next found kept = grind (arith, own_id, named-walk, faulted-walk)
+walk (is_closed cid) m R change next found kept = grind (arith, own_id, named-walk)
 walk (makes_ordinary addr) m R change next found kept = kept.when_made addr m refl
 walk (provides addr) m R change next found kept = kept.when_known false addr m refl
 walk (provides_big addr) m R change next found kept = big-walk (scope_of (provides_big addr) m) R kept addr m refl
