@@ -3,8 +3,8 @@ use Rattle.std.proofs.Common.{◌+◌, ◌≡◌, Bool, true, false, ◌&&◌, �
 use Rattle.laws.proofs.Words.{both_ways, and_parts, false_from_ne_true, list_any_none, All-weaker}
 use Rattle.laws.specs.Words.{list_any, accepted, is_live, is_live_at, is_pending, same_address, address_below, Away, OwnAddr, Crossed, Overwritten, Addr, Facts, ending, then_do, turned_away, admitted, accepted_beside, peer_connects, Machine, Entry, fresh_entry, live_entry_at}
 use Rattle.net_base.specs.declared.action.Away.TheVariants.{Full, Present}
-use Rattle.laws.specs.Acts.{Act, asks_for_roots, connects, does}
-use Rattle.laws.specs.Admitted.{admitted_by, turned_away_by, is_crossing, is_present, cause_against, IsTurnedAway, IsNew, IsLetIn, ByCause, AdmitsRight}
+use Rattle.laws.specs.Acts.{Act, does}
+use Rattle.laws.specs.Admitted.{is_crossing, is_present, cause_against, IsTurnedAway, IsNew, IsLetIn, ByCause, AdmitsRight}
 use Rattle.laws.specs.AtMoves.{OnEntry}
 use Rattle.laws.specs.Sound.{IsOrderly}
 use Rattle.laws.specs.Parts.{IsNext}

@@ -1,7 +1,7 @@
 -- On the connection that a part is about a wait begins, goes on and ends exactly where it is to.
 use Rattle.std.proofs.Common.{ℕ, ◌+◌, ◌≡◌, Bool, true, false, not, ◌&&◌, ◌||◌, ◌==◌, if◌then◌else◌, Option, Some, None, Result, Ok, Err, refl, sym, ap, ◌∙◌, subst, eq-eqb, eqb-true, [], arith}
 use Rattle.laws.proofs.Words.{false≢true, and_right}
-use Rattle.laws.specs.Words.{agreed_inbound, agreed_outbound, awakened, connected, expired, released, has_id, is_dialing_phase, is_for_remote, is_greeting_phase, is_live, is_negotiated, runs, some_runs, with_responder, agreed_sharing, Order, verdict_of, Verdict, message_of, Message, Item, FaultKind, Agreed, Off, ForRemote, ForLocal, Phase, Greeting, Negotiated, Deadline, Kind, watched, Seen, closing_entry, fires_as, fires, on_entry, role_of, Machine, Entry, entry_at, own_info, owing, paid}
+use Rattle.laws.specs.Words.{agreed_inbound, agreed_outbound, awakened, connected, expired, released, has_id, is_dialing_phase, is_for_remote, is_live, is_negotiated, some_runs, with_responder, agreed_sharing, Order, verdict_of, Verdict, Message, Item, FaultKind, Agreed, Off, ForRemote, Phase, Greeting, Negotiated, Deadline, Kind, watched, Seen, closing_entry, fires_as, fires, on_entry, role_of, Machine, Entry, entry_at, own_info, owing, paid}
 use Rattle.laws.specs.Words.kind
 use Rattle.laws.specs.Acts.{Act, fires_one, carries, ends_dial, stores, handles_item, ends_stream, is_closed, does}
 use Rattle.laws.specs.Begun.{is_kind, is_reply_on, begun_where, ended_where, wait_fired, wait_ordered, wait_agreed, wait_asked, wait_handled, wait_after, WhereStays, WaitsBegin}

@@ -1,7 +1,7 @@
 -- The moves of the clock: a reply is late, a grace is over, a handshake was not done in time, a time-wait is over.
 use Rattle.std.proofs.Common.{ℕ, zero, suc, ◌≡◌, ◌≤◌, arith, true, false, ◌&&◌, [], ◌∷◌, Some, All, Contains, refl, sym, ap, subst, leb-true}
-use Rattle.laws.proofs.Words.{cond_both, both_ways, false≢true, and_right, All-weaker, All-contains, All-contains_itself}
-use Rattle.laws.specs.Words.{Close, Unused, Fault, HandshakeWait, ReplyWait, Facts, Deadline, Kind, Handshake, TimeWait, expired, is_live, live_phase, is_greeting, is_greeting_phase, is_negotiated, is_outbound, Machine, Entry, Owed, Effect, unused, gone, tells, then_do, as_move, on_entry, peer_at, entry_turns, entry_goes, closing_entry, grace_over, wait_over, deadlines_of, reply_deadline, due, fires_as, fires, fires_some, fire_due}
+use Rattle.laws.proofs.Words.{cond_both, both_ways, false≢true, and_right, All-weaker, All-contains_itself}
+use Rattle.laws.specs.Words.{Close, Unused, Fault, HandshakeWait, ReplyWait, Facts, Deadline, Kind, Handshake, TimeWait, expired, is_live, live_phase, is_greeting, is_greeting_phase, is_negotiated, is_outbound, Machine, Entry, Owed, Effect, unused, gone, tells, then_do, as_move, peer_at, entry_turns, entry_goes, closing_entry, grace_over, wait_over, deadlines_of, reply_deadline, due, fires_as, fires, fires_some, fire_due}
 use Rattle.net_base.specs.declared.timer.Kind.TheVariants.{Grace as GraceKind}
 use Rattle.laws.specs.AtMoves.{is_missed, failed_where, FailsWhere, IsPast, IsOver, IsLawful}
 use Rattle.laws.specs.Sound.{IsOrderly}
@@ -9,16 +9,15 @@ use Rattle.laws.specs.Stages.{stage_of_phase, stage_at}
 use Rattle.laws.specs.Telling.{IsTold}
 use Rattle.laws.specs.Steady.{IsShaped, IsOrdered}
 use Rattle.laws.proofs.Counts.{is_late}
-use Rattle.laws.proofs.Firing.{Due, due_of, deadlines-by, reply_kind-cases}
+use Rattle.laws.proofs.Firing.{due_of, deadlines-by}
 use Rattle.laws.proofs.Keeping.{Keeps}
 use Rattle.laws.proofs.Lawful.{Obeys, obeys_then, obeys_nothing, accounts_turned, accounts_gone, live_stage, stands-stage, ending-obeys, on_stands, turns-obeys, as_move-obeys}
 use Rattle.laws.proofs.Entries.{TurnsInto}
 use Rattle.laws.proofs.Lists.{StandsAt}
-use Rattle.laws.proofs.Shapes.{local-negotiated}
 use Rattle.laws.proofs.Telling.{told_move}
 use Rattle.laws.proofs.ToldMoves.{turned-told, turned-stage, goes-told, ended-told}
 use Rattle.laws.proofs.WholeEvents.{fires-keeps}
-use Rattle.laws.proofs.WholeMoves.{stands-shaped, stands-owing, greeting-live, negotiated-live}
+use Rattle.laws.proofs.WholeMoves.{stands-shaped, greeting-live, negotiated-live}
 use Rattle.laws.proofs.Cases.{by_option}
 
 -- ---- what it is that is late

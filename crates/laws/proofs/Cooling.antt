@@ -1,17 +1,17 @@
 -- A peer in use cools only by a release, a deactivation or the loss of its connection.
-use Rattle.std.proofs.Common.{ℕ, ◌+◌, ◌≡◌, ◌⊎◌, Bool, true, false, ◌&&◌, ◌||◌, ◌==◌, find, is_none, List, if◌then◌else◌, Option, Some, None, refl, sym, ap, ◌∙◌, subst, inl, inr, arith, eqb-true}
+use Rattle.std.proofs.Common.{ℕ, ◌+◌, ◌≡◌, ◌⊎◌, Bool, true, false, ◌||◌, ◌==◌, find, List, if◌then◌else◌, Option, Some, None, refl, sym, ap, ◌∙◌, subst, inl, inr, arith, eqb-true}
 use Rattle.laws.proofs.Words.{cond_both, and_parts, or_right, list_any_at}
-use Rattle.laws.specs.Words.{turns_at, is_established, is_acquirable, is_live_at, Facts, dial_fails, is_wanted_big, as_move, shared, option_map, unwrap_or, choice_of, has_id, same_address, failed_peer, new_peer, Addr, Peer, Temp, Cold, Warm, Hot, CloseCause, Overwritten, Pruned, Fault, Protocol, Refused, Query, HandshakeWait, ReplyWait, Order, Ask, Forget, Promote, Release, Activate, Deactivate, is_candidate, is_dialing, is_greeting_phase, is_greeting, is_live, runs, Phase, Greeting, Negotiated, Kind, Item, CutFault, Verdict, kind_of, verdict_of, answer_of, Seen, is_missed, candidates_in, ending, vanishes, with_entry, without_entry, grace_over, acquire, trim, release, awake, dial, dial_opens, fires_as, Effect, nothing_more, on_entry, closes, dialed, promoted_at, is_used_at, on_used, asks_peer, activates, deactivates as rests, carries_out, peer_fails, peer_changes, peer_becomes, peer_comes, peer_goes, peer_at, role_of, judged, greets, own_info, paid, owing, handled_in, handled, faulted, serves, begins, brings, talks, Machine, Entry, entry_at, live_entry_at}
+use Rattle.laws.specs.Words.{turns_at, is_established, is_acquirable, is_live_at, Facts, dial_fails, option_map, unwrap_or, choice_of, has_id, same_address, failed_peer, Addr, Peer, Temp, Cold, Warm, Hot, CloseCause, Overwritten, Pruned, Fault, Protocol, Refused, Query, HandshakeWait, ReplyWait, Order, Ask, Forget, Promote, Release, Activate, Deactivate, is_candidate, is_dialing, is_greeting_phase, is_greeting, is_live, runs, Phase, Greeting, Negotiated, Kind, Item, CutFault, Verdict, kind_of, verdict_of, answer_of, Seen, is_missed, candidates_in, ending, vanishes, with_entry, without_entry, grace_over, acquire, trim, release, awake, dial, dial_opens, fires_as, Effect, nothing_more, on_entry, closes, dialed, promoted_at, is_used_at, on_used, asks_peer, activates, deactivates as rests, carries_out, peer_fails, peer_changes, peer_becomes, peer_comes, peer_goes, peer_at, role_of, judged, greets, own_info, paid, owing, handled_in, handled, faulted, serves, begins, brings, talks, Machine, Entry, entry_at, live_entry_at}
 use Rattle.laws.specs.Words.verdict
 use Rattle.laws.specs.Words.kind
-use Rattle.peer_book.specs.Book.{peer_at as peer_in, with_new as with_new_in}
+use Rattle.peer_book.specs.Book.{peer_at as peer_in}
 use Rattle.laws.specs.Acts.{Act, fires_one, carries, ends_dial, handles_item, ends_stream, is_closed, makes_ordinary, provides, provides_big, does}
 use Rattle.laws.specs.BackOff.{WhereBoth, has_lost}
 use Rattle.laws.specs.CarriedOut.{OnPeer, IsCarriedOut, IsDoneByOrder, IsCooledBy, releases, deactivates, CoolsOnly}
 use Rattle.laws.specs.Ordered.{IsOne, MayBePromoted}
 use Rattle.laws.specs.Parts.{IsNext}
 use Rattle.laws.specs.Sound.{IsOrderly}
-use Rattle.laws.specs.Steady.{TiedBy, IsTied, IsOrdered}
+use Rattle.laws.specs.Steady.{IsTied, IsOrdered}
 use Rattle.laws.proofs.Addresses.{same_address-self, same_address-true}
 use Rattle.laws.proofs.BackOff.{released-peers}
 use Rattle.laws.proofs.CarriedOut.{treats-book, changed-here}

@@ -1,8 +1,8 @@
 -- What a connection adds to the counts of the record: whether the limits count it, and how many of its deadlines
 -- are late.
-use Rattle.std.proofs.Common.{ℕ, ◌+◌, ◌≤◌, ◌≡◌, Bool, true, false, cond, ◌++◌, map, sum_by, count_by, nat_le, refl, ap, ◌∙◌, arith}
+use Rattle.std.proofs.Common.{ℕ, ◌+◌, ◌≤◌, ◌≡◌, Bool, true, false, cond, map, sum_by, count_by, nat_le, arith}
 use Rattle.laws.proofs.Words.{lt-leb, sum_by-append}
-use Rattle.laws.specs.Words.{Facts, Closing, Deadline, is_counted, expired, closing, Machine, Entry, counted_in, closing_entry, deadlines, deadlines_of, phase_deadlines, grace_deadlines, reply_deadline}
+use Rattle.laws.specs.Words.{Facts, Deadline, is_counted, expired, closing, Machine, Entry, counted_in, closing_entry, deadlines, deadlines_of, phase_deadlines, grace_deadlines, reply_deadline}
 use Rattle.laws.proofs.Lists.{sum_by-map, sum_by-flat_map}
 
 -- 1 where the limits count it

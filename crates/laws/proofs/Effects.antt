@@ -1,5 +1,5 @@
 -- What each move adds to the counts of the record: counted connections and late deadlines.
-use Rattle.std.proofs.Common.{ℕ, ◌+◌, ◌≤◌, ◌≡◌, Bool, true, false, cond, not, ◌==◌, nat_le, nat_lt, List, [], ◌∷◌, ◌++◌, map, filter, count_by, refl, ap, ◌∙◌, arith}
+use Rattle.std.proofs.Common.{ℕ, ◌+◌, ◌≤◌, ◌≡◌, Bool, true, false, cond, not, ◌==◌, nat_le, nat_lt, List, [], ◌∷◌, ◌++◌, map, filter, count_by, refl, arith}
 use Rattle.laws.proofs.Words.{lt-leb, map-append, sum_by-append, sum_by-cons}
 use Rattle.laws.specs.Words.{Agreed, Cid, Facts, ForRemote, ForLocal, Greeting, is_counted, connected, agreed_outbound, acquired, is_outbound, is_greeting, is_negotiated, some_runs, phase_deadlines, grace_deadlines, reply_deadline, Entry, Owed, with_reply, without_reply}
 use Rattle.laws.proofs.Counts.{one_if_counted, is_late, late_of, late_of-parts, grace_late_of}

@@ -1,10 +1,8 @@
 -- Whose peer fails: that of a connection which goes and is missed.
-use Rattle.std.proofs.Common.{◌≡◌, if◌then◌else◌, Some, refl, sym, ◌∙◌, subst, arith}
-use Rattle.laws.specs.Words.{option_map, failed_peer, CloseCause, Overwritten, Addr, Facts, Peer, without_entry, lost, ending, vanishes, nothing_more, Machine, Entry, peer_at, turns_at, peer_changes, peer_fails}
-use Rattle.peer_book.specs.Book.{peer_at as peer_in, with_peer as with_peer_in}
+use Rattle.std.proofs.Common.{◌≡◌, refl, arith}
+use Rattle.laws.specs.Words.{option_map, CloseCause, Overwritten, Addr, Facts, Peer, without_entry, lost, ending, vanishes, Machine, Entry, peer_at, peer_changes}
 use Rattle.laws.specs.AtMoves.{is_missed, is_failure, failed_where, FailsWhere}
 use Rattle.laws.proofs.Ties.{found-addr, peer_here}
-use Rattle.laws.proofs.Cases.{by_bool, by_option}
 
 -- at the address of a peer that changes is what it turned into
 pub changed-found : (a : Addr) (change : Peer → Peer) (m : Machine) → ((p : Peer) → (change p).addr ≡ p.addr) →

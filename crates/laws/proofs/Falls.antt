@@ -1,7 +1,7 @@
 -- An order at one address lowers what is counted by one at most, and leaves other addresses as they were.
-use Rattle.std.proofs.Common.{ℕ, ◌+◌, ◌≤◌, ◌≡◌, Bool, true, false, cond, not, ◌&&◌, ◌||◌, List, [], ◌∷◌, filter, count_by, Some, refl, sym, ap, ◌∙◌, subst, arith}
+use Rattle.std.proofs.Common.{ℕ, ◌+◌, ◌≤◌, ◌≡◌, Bool, true, false, cond, not, List, [], ◌∷◌, filter, count_by, refl, sym, ap, ◌∙◌, subst, arith}
 use Rattle.laws.proofs.Words.{and_parts, sum_by-cons}
-use Rattle.laws.specs.Words.{list_any, AllByRecursion, has_id, is_live_at, same_address, Addr, Cid, Peer, Cold, Warm, is_of, known_of, without_peer, with_entry, without_entry, trim, release, on_used, asks_peer, deactivates, Machine, Entry, owing}
+use Rattle.laws.specs.Words.{list_any, AllByRecursion, is_live_at, same_address, Addr, Cid, Peer, Cold, Warm, is_of, known_of, without_peer, with_entry, trim, release, on_used, asks_peer, deactivates, Machine, Entry, owing}
 use Rattle.peer_book.specs.Book.{peer_at as peer_in}
 use Rattle.laws.specs.AtMoves.{some_connection}
 use Rattle.laws.specs.Steady.{ArePeersApart, IsOrdered}

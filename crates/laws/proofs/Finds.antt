@@ -1,9 +1,9 @@
 -- What a search finds once one element of a list has changed or gone, where at most one passes.
-use Rattle.std.proofs.Common.{ℕ, zero, suc, ◌≡◌, Bool, true, false, cond, List, [], ◌∷◌, find, set, remove, Some, None, All, refl, ap, ◌∙◌, arith, Option, filter, map, not, if◌then◌else◌, ◌==◌, sym, subst, eqb-true, eq-eqb, ne_eqb}
+use Rattle.std.proofs.Common.{ℕ, zero, suc, ◌≡◌, Bool, true, false, cond, List, [], ◌∷◌, find, set, remove, Some, None, All, refl, ap, ◌∙◌, arith, Option, filter, map, not, if◌then◌else◌, ◌==◌, sym, eqb-true}
 use Rattle.laws.proofs.Lists.{StandsAt, stands_before, OnePasses, OnePasses-none_after, OnePasses-not_before, OnePasses-tail}
 use Rattle.laws.specs.Words.{option_map, has_id, Entry}
 use Rattle.laws.proofs.Cases.{by_bool}
-use Rattle.laws.proofs.Words.{All-head, All-tail, find_past, both_ways}
+use Rattle.laws.proofs.Words.{All-head, All-tail, find_past}
 
 pub find-none_passes : {X : Type 0} (p : X → Bool) (xs : List X) → All (λ x. p x ≡ false) xs → find p xs ≡ None
 find-none_passes p [] h = refl

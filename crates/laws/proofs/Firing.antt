@@ -1,7 +1,7 @@
 -- The deadlines that are due fire, and none is left.
-use Rattle.std.proofs.Common.{ℕ, zero, suc, ◌≤◌, ◌≡◌, true, false, cond, List, [], ◌∷◌, ◌++◌, length, get_or, map, filter, flat_map, count_by, Some, None, All, Contains, ◌==◌, if◌then◌else◌, refl, sym, ap, ◌∙◌, subst, ⊎_elim, arith, eq-eqb}
+use Rattle.std.proofs.Common.{ℕ, zero, suc, ◌≤◌, ◌≡◌, true, false, List, [], ◌∷◌, ◌++◌, length, get_or, map, filter, flat_map, count_by, Some, None, All, Contains, refl, sym, ap, ◌∙◌, subst, ⊎_elim, arith, eq-eqb}
 use Rattle.laws.proofs.Words.{cond_both, nil_from_length, All-nil, All-cons, All-append, All-map, All-filter, All-contains, All-contains_itself, filter_passes, Contains-append_cases, Contains-append_right, length-filter, get_or-le-sum_by, count_by-le-length}
-use Rattle.laws.specs.Words.{Grace, Off, ForRemote, ForLocal, Phase, Greeting, Closing, Fault, HandshakeWait, ReplyWait, Deadline, Kind, Handshake, TimeWait, Reply2, Reply8, Reply10, deadline_before, is_live, live_phase, has_id, Machine, Entry, entry_at, deadlines, deadlines_of, phase_deadlines, grace_deadlines, reply_kind, reply_deadline, due, fires_as, fires, fires_some, fire_due, fire_all, timer, earlier, least, on_entry}
+use Rattle.laws.specs.Words.{Grace, ForRemote, ForLocal, Phase, Greeting, Closing, Fault, HandshakeWait, ReplyWait, Deadline, Kind, Handshake, TimeWait, Reply2, Reply8, Reply10, deadline_before, is_live, live_phase, has_id, Machine, Entry, entry_at, deadlines, deadlines_of, phase_deadlines, grace_deadlines, reply_kind, reply_deadline, due, fires_as, fires, fires_some, fire_due, fire_all, timer, earlier, least, on_entry}
 use Rattle.net_base.specs.declared.timer.Kind.TheVariants.{Grace as GraceKind}
 use Rattle.laws.specs.Sound.{IsOrderly}
 use Rattle.laws.proofs.Lists.{StandsAt, stands_next, FoundIn, find_some, find_only}

@@ -1,12 +1,11 @@
 -- Who goes without this node's doing.
-use Rattle.std.proofs.Common.{ℕ, ◌≡◌, Bool, false, if◌then◌else◌, List, [], ◌∷◌, ◌++◌, find, flat_map, Option, Some, None, refl, ap, ◌∙◌, subst, eq-eqb, eqb-true, arith}
-use Rattle.laws.specs.Words.{has_id, Action, Addr, Terminated, Cid, Facts, lost, vanishes, without_entry, on_entry, closes, dialed, Machine, Entry, entry_at}
+use Rattle.std.proofs.Common.{ℕ, ◌≡◌, Bool, false, List, [], find, flat_map, Option, Some, None, refl, ap, ◌∙◌, subst, eqb-true, arith}
+use Rattle.laws.specs.Words.{has_id, Action, Addr, Cid, Facts, lost, vanishes, without_entry, on_entry, closes, dialed, Machine, Entry, entry_at}
 use Rattle.net_base.specs.declared.action.Action.TheVariants.{Peer as TellPeer}
 use Rattle.laws.specs.Words.note
 use Rattle.laws.specs.Acts.{Act, ends_dial, is_closed, does}
 use Rattle.laws.specs.CarriedOut.{WhereLive}
 use Rattle.laws.specs.Goes.{IsGone, WhereDialing, GoesWhere}
-use Rattle.laws.specs.InActions.{names_by, names_in}
 use Rattle.laws.proofs.Lawful.{lost-quiet}
 use Rattle.laws.proofs.Lists.{find_some}
 use Rattle.laws.proofs.Moments.{gone-none}

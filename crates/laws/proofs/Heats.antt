@@ -1,13 +1,12 @@
 -- A peer that has answered where the chains meet is hot.
 use Rattle.std.proofs.Common.{◌≡◌, true, false, ◌==◌, is_some, Option, Some, None, refl, sym, ap, ◌∙◌, subst, eqb-true, arith}
-use Rattle.laws.proofs.Words.{cond_both, both_ways, false≢true}
-use Rattle.laws.specs.Words.{option_map, Item, Phase, Negotiated, Hot, Peer, Addr, Fault, Protocol, CloseCause, has_id, is_negotiated_phase, agreed_sharing, watched, Effect, then_do, on_entry, entry_turns, with_entry, ending, handled, handled_in, asked_as, answered_as, reply_on, Owed, pays, paid, brings, peer_becomes, peer_at, Machine, Entry, entry_at}
+use Rattle.laws.proofs.Words.{cond_both, false≢true}
+use Rattle.laws.specs.Words.{Item, Phase, Hot, Peer, Addr, Fault, Protocol, CloseCause, has_id, is_negotiated_phase, Effect, then_do, on_entry, entry_turns, with_entry, ending, handled, handled_in, answered_as, Owed, pays, paid, brings, peer_becomes, peer_at, Machine, Entry, entry_at}
 use Rattle.laws.specs.Acts.{Act, handles_item, does}
 use Rattle.laws.specs.CarriedOut.{OnPeer, WhereAnswered, HeatsUp}
 use Rattle.laws.proofs.Failures.{changed-found}
 use Rattle.laws.proofs.Lists.{find_some}
 use Rattle.laws.proofs.Moments.{ending-none}
-use Rattle.laws.proofs.Cases.{by_option}
 
 abbrev IsHot : Entry → Machine → Type 0
 IsHot e after = is_some (entry_at e.facts.cid.0 after) ≡ true → OnPeer (peer_at e.facts.addr after) (λ p. p.temp ≡ Hot)

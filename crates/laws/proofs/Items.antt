@@ -1,5 +1,5 @@
 -- What an item leaves: what is agreed on in a handshake, which protocols the other side runs, and that what still stands stands open.
-use Rattle.std.proofs.Common.{◌+◌, ◌≡◌, true, if◌then◌else◌, Option, Some, None, refl, ap, ◌∙◌, eq-eqb, arith, ℕ, Bool, false, not, ◌==◌, Result, Ok, Err, subst}
+use Rattle.std.proofs.Common.{◌≡◌, true, if◌then◌else◌, Option, Some, None, refl, ap, ◌∙◌, eq-eqb, arith, ℕ, Bool, false, not, ◌==◌, Result, subst}
 use Rattle.laws.proofs.Words.{false≢true}
 use Rattle.laws.specs.Words.{option_and_then, is_greeting_phase, is_outbound_by, verdict_of, Acceptor, Dialer, Verdict, message_of, Message, Item, Cid, Phase, Greeting, role_of, Machine, Entry, entry_at, own_info, is_negotiated_phase, agreed_sharing, runs, with_responder, FaultKind, Negotiated, Responders, watched, Seen, paid, is_live, with_entry, on_entry, handled, handles}
 use Rattle.laws.specs.Acts.{Act, handles_item, does}

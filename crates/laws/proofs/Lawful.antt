@@ -1,6 +1,6 @@
 -- The moves of a part of a step: each keeps a law, no connection whose handshake is done is gone without one, and nobody
 -- comes up without one.
-use Rattle.std.proofs.Common.{ℕ, ◌+◌, ◌%◌, ◌≡◌, ◌≤◌, Bool, true, false, ◌==◌, nat_lt, if◌then◌else◌, arith, List, [], ◌∷◌, ◌++◌, Some, refl, sym, ap, ◌∙◌, subst}
+use Rattle.std.proofs.Common.{ℕ, ◌%◌, ◌≡◌, ◌≤◌, Bool, true, false, nat_lt, if◌then◌else◌, arith, List, [], ◌∷◌, ◌++◌, Some, refl, sym, ap, ◌∙◌, subst}
 use Rattle.laws.proofs.Words.{false≢true}
 use Rattle.laws.specs.Words.{AllByRecursion, same_address, Action, CloseCause, Unused, Overwritten, Facts, Phase, Negotiated, Closing, Peer, has_id, is_live, live_phase, is_negotiated, is_negotiated_phase, Machine, Entry, entry_at, Effect, Happened, Move, promoted, shared, ended, nothing_more, tells, then_do, as_move, peer_at, peer_changes, peer_succeeds, note_of_coming, peer_comes, Addr, new_peer, entry_of, entered, Added, New, owing, sends_as_initiator, with_entry, without_entry, entry_turns, entry_goes, lost, lost_by, ending, is_used, Warm, written_alive}
 use Rattle.warm_messages.specs.declared.alive.Alive.TheVariants.{Ask}

@@ -7,7 +7,7 @@ use Rattle.laws.specs.AtMoves.{is_ended_in}
 use Rattle.laws.specs.Goes.{is_waiting_entry, is_waiting_at, is_time_wait, ends_time_wait, Lingers}
 use Rattle.laws.specs.OpenEnds.{goes_by_itself}
 use Rattle.laws.specs.Parts.{IsNext}
-use Rattle.laws.specs.Stages.{stage_of, stage_at}
+use Rattle.laws.specs.Stages.{stage_of}
 use Rattle.laws.specs.Steady.{IsOrdered, IsShaped, IsOwing}
 use Rattle.laws.specs.Telling.{IsTold}
 use Rattle.laws.specs.Untouched.{is_about, may_close}

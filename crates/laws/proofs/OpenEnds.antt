@@ -1,14 +1,13 @@
 -- A connection that stands open stays so or ends once, in each part of an event.
-use Rattle.std.proofs.Common.{ℕ, ◌+◌, ◌≤◌, ◌≡◌, Bool, true, false, ◌||◌, ◌==◌, nat_lt, if◌then◌else◌, cond, flat_map, List, [], ◌∷◌, ◌++◌, find, Option, Some, None, refl, sym, ap, ◌∙◌, subst, inl, inr, arith, eqb-true}
-use Rattle.laws.proofs.Words.{both_ways, false≢true, or_left, or_right, list_any-append, find-append}
-use Rattle.laws.specs.Words.{Undecoded, list_any, option_map, option_or, dialing, accepted, has_id, is_live, Send, CloseCause, entry_goes, with_entry, without_entry, entry_turns, lost_by, ending, vanishes, closing_entry, dial, Effect, Happened, Move, ended, unused, nothing_more, tells, then_do, as_move, turned_away, admitted, Machine, Entry, fresh_entry, entry_at, peer_changes, peer_goes, peer_at, peer_comes, peer_is_ordinary}
+use Rattle.std.proofs.Common.{ℕ, ◌+◌, ◌≤◌, ◌≡◌, Bool, true, false, ◌||◌, ◌==◌, nat_lt, List, [], ◌∷◌, ◌++◌, Option, Some, None, refl, sym, ap, ◌∙◌, arith}
+use Rattle.laws.proofs.Words.{both_ways, false≢true, or_right, list_any-append, find-append}
+use Rattle.laws.specs.Words.{Undecoded, option_map, dialing, accepted, is_live, Send, CloseCause, entry_goes, with_entry, without_entry, entry_turns, ending, vanishes, dial, Effect, Happened, Move, nothing_more, tells, then_do, as_move, turned_away, admitted, Machine, Entry, fresh_entry, entry_at, peer_changes, peer_goes, peer_at, peer_comes, peer_is_ordinary}
 use Rattle.laws.specs.Acts.{Act, does}
 use Rattle.laws.specs.AtMoves.{ends, is_ended_in}
 use Rattle.laws.specs.OpenEnds.{is_open_entry, is_open_at, goes_by_itself, IsOpenEnd, OpenEndsOnce}
 use Rattle.laws.specs.Parts.{IsNext}
-use Rattle.laws.specs.Stages.{stage_of, stage_at, causes_by, causes_in, IsOneEnd, IsLateCause}
+use Rattle.laws.specs.Stages.{stage_of, stage_at, causes_in, IsOneEnd, IsLateCause}
 use Rattle.laws.specs.Telling.{IsTold}
-use Rattle.laws.specs.InActions.{ended_by, ends_in}
 use Rattle.laws.proofs.Walk.{Finds, Scope, Stands, Turn, turned_by, turned-cid, turned-live, shuts, Kept, scope_of, walk, own_id}
 use Rattle.laws.proofs.Moments.{turned-found}
 use Rattle.laws.proofs.Lawful.{comes-machine, lost_by-quiet, lost-quiet, live_stage}
@@ -16,7 +15,6 @@ use Rattle.laws.proofs.Telling.{ended-over}
 use Rattle.laws.proofs.ToldMoves.{turns_at-connections}
 use Rattle.laws.proofs.Waits.{replaced, gone-found}
 use Rattle.laws.proofs.WaitsOfParts.{sets_or_changes}
-use Rattle.laws.proofs.Cases.{by_bool, by_option}
 
 -- whoever is so stays so, or a move ends it, or it goes by itself
 abbrev pub StaysOr : (ℕ → Machine → Bool) → (ℕ → Bool) → Machine → Effect → Type 0
@@ -47,7 +45,7 @@ module _ (scope : Scope) (test : Option Entry → Bool) (goes : ℕ → Bool) (l
   stays_own m e effect others own cid was = grind arith
 
   turned-others : (m : Machine) (e new : Entry) → new.facts.cid ≡ e.facts.cid → (cid : ℕ) → (e.facts.cid.0 == cid) ≡ false → entry_at cid (with_entry new m) ≡ entry_at cid m
-  turned-others m e new same cid h5 = grind (arith, replaced)
+  turned-others m e new same cid other = grind (arith, replaced)
 
   turned-here : (m : Machine) (e new : Entry) → entry_at e.facts.cid.0 m ≡ Some e → new.facts.cid ≡ e.facts.cid → entry_at e.facts.cid.0 (with_entry new m) ≡ Some new
   turned-here m e new stands same = turned-found e new m same ∙ ap (option_map (λ x. new)) stands

@@ -1,10 +1,10 @@
 -- What is due is sent, and nothing else.
-use Rattle.std.proofs.Common.{ℕ, ◌+◌, ◌%◌, ◌≡◌, Bool, false, ◌&&◌, ◌==◌, if◌then◌else◌, List, [], ◌++◌, Option, Some, None, Result, Ok, Err, refl, sym, ap, ◌∙◌, subst, eqb-true, append-nil, arith}
-use Rattle.laws.proofs.Words.{cond_both, false≢true, flat_map-append}
-use Rattle.laws.specs.Words.{acquired, agreed_inbound, agreed_outbound, agreed_sharing, has_id, is_acquirable, is_dialing, Order, answer_of, proposal_of, Verdict, Item, Refused, Query, Fault, FaultKind, Malformed, Protocol, Addr, Cid, Facts, Phase, Greeting, Negotiated, Cold, Warm, watched, Seen, written_alive, written_request, Done, with_entry, entry_turns, ending, is_used, acquire, trim, says_done, release, dial, dial_opens, Effect, nothing_more, then_do, on_entry, dialed, promoted_at, asks_peer, activates, deactivates, carries_out, judged, decided, greets, sends_answer, Machine, Entry, entry_at, own_info, peer_at, peer_becomes, peer_succeeds, owing, reply_on, sends_as_initiator, peer_sharing_done, find_intersect, chain_sync_done, handled_in, handled, serves, begins, takes_requests, asked_as, answered_as, talks}
+use Rattle.std.proofs.Common.{ℕ, ◌+◌, ◌%◌, ◌≡◌, Bool, false, ◌&&◌, if◌then◌else◌, List, [], ◌++◌, Option, Some, None, Result, Ok, Err, refl, sym, ap, ◌∙◌, subst, eqb-true, append-nil, arith}
+use Rattle.laws.proofs.Words.{cond_both, flat_map-append}
+use Rattle.laws.specs.Words.{acquired, agreed_inbound, agreed_outbound, agreed_sharing, has_id, is_acquirable, is_dialing, Order, proposal_of, Verdict, Item, Refused, Query, Fault, FaultKind, Malformed, Protocol, Addr, Cid, Facts, Phase, Cold, Warm, Seen, written_alive, written_request, Done, with_entry, entry_turns, ending, is_used, trim, release, dial_opens, Effect, then_do, on_entry, dialed, promoted_at, asks_peer, activates, deactivates, carries_out, judged, decided, greets, sends_answer, Machine, Entry, entry_at, own_info, peer_at, peer_becomes, peer_succeeds, owing, sends_as_initiator, peer_sharing_done, find_intersect, chain_sync_done, handled_in, handled, serves, begins, takes_requests, asked_as, talks}
 use Rattle.laws.specs.Words.verdict
 use Rattle.warm_messages.specs.declared.alive.Alive.TheVariants.{Ask as AskAlive}
-use Rattle.laws.specs.Acts.{Act, asks_for_roots, carries, connects, ends_dial, handles_item, does}
+use Rattle.laws.specs.Acts.{Act, does}
 use Rattle.laws.specs.Sends.{says, keeps_alive, on_one, due_by_order, answers, comes_into_use, due_by_verdict, by_message, due_in_greeting, SendsInUse, SendsByPhase, SendsOnItem, SendsRight}
 use Rattle.laws.specs.Served.{Sent, sent_by, sent_in}
 use Rattle.laws.specs.Parts.{IsNext}
@@ -14,7 +14,7 @@ use Rattle.laws.proofs.Moments.{turned-found}
 use Rattle.laws.proofs.Walk.{is_released, turned_by, cooled, on_those, says_done-machine, replies-machine, Finds, answer-machine}
 use Rattle.laws.proofs.Silent.{sent-deaf, turns-silent, changed-silent, ending-silent, vanishes-silent, trim-silent, connects-silent, begins-silent, answered-silent, asks-silent, quiet-silent}
 use Rattle.laws.proofs.WaitsOfParts.{changed-waits}
-use Rattle.laws.proofs.Cases.{by_bool, by_option}
+use Rattle.laws.proofs.Cases.{by_option}
 
 -- ---- one part after the other
 

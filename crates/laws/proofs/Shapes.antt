@@ -1,9 +1,8 @@
 -- Each move keeps the facts of a connection in shape.
-use Rattle.std.proofs.Common.{ℕ, ◌≡◌, Bool, true, false, not, ◌||◌, if◌then◌else◌, refl, sym, arith}
-use Rattle.laws.proofs.Words.{false≢true, both_ways, cond_both}
+use Rattle.std.proofs.Common.{ℕ, ◌≡◌, Bool, true, false, not, ◌||◌, if◌then◌else◌, refl, arith}
+use Rattle.laws.proofs.Words.{false≢true, both_ways}
 use Rattle.laws.specs.Words.{Addr, Agreed, Facts, Grace, Off, ForRemote, ForLocal, Phase, Negotiated, accepted, dialing, connected, agreed_inbound, agreed_outbound, acquired, released, awakened, idled, expired, closing, is_negotiated, is_negotiated_phase, is_dialing, is_dialing_phase, is_greeting, is_greeting_phase, is_outbound, is_duplex, is_for_remote, is_for_local, some_runs, is_acquirable}
 use Rattle.laws.specs.Steady.{IsShaped, IsUnused}
-use Rattle.laws.proofs.Cases.{by_bool}
 
 -- ---- phases exclude each other
 

@@ -1,7 +1,7 @@
 -- What is told of a sort by no part but those that are to.
 use Rattle.std.proofs.Common.{ℕ, ◌≡◌, Bool, true, false, List, [], ◌∷◌, ◌++◌, flat_map, Option, Some, None, refl, ap, ◌∙◌, arith}
 use Rattle.laws.proofs.Words.{cond_both, false≢true, flat_map-append}
-use Rattle.laws.specs.Words.{dialing, name_of, same_name, runs, Item, Action, Admit, Turnaway, Dial, Send, Close, Pause, AskRoots, State, Away, CloseCause, Unused, Overwritten, Fault, Protocol, PeerNote, StateName, Terminated, Addr, Cid, Job, Peer, asked, may_ask, with_entry, without_entry, entry_turns, lost, ending, vanishes, closing_entry, trim, awake, Effect, nothing_more, tells, then_do, admitted, peer_connects, asks_roots, Machine, Entry, Owed, next_cid, peer_at, turns_at, peer_comes, paid, stops_if, begins, pays, brings, answered_as}
+use Rattle.laws.specs.Words.{dialing, name_of, same_name, runs, Item, Action, Admit, Turnaway, Dial, Send, Close, Pause, AskRoots, State, Away, CloseCause, Unused, Overwritten, Fault, Protocol, PeerNote, StateName, Terminated, Addr, Cid, Job, Peer, with_entry, without_entry, entry_turns, lost, ending, vanishes, closing_entry, trim, awake, Effect, nothing_more, then_do, admitted, peer_connects, asks_roots, Machine, Entry, Owed, next_cid, peer_at, turns_at, peer_comes, paid, stops_if, begins, pays, brings, answered_as}
 use Rattle.net_base.specs.declared.action.Action.TheVariants.{Peer as TellPeer}
 use Rattle.laws.specs.Words.note
 use Rattle.laws.specs.Acts.{Act, shows, asks_for_roots, connects, sets_targets, sets_big_targets, sets_groups, sets_roots, does}

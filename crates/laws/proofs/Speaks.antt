@@ -1,15 +1,15 @@
 -- What is said is said to who is open, and behind the close of a connection nothing.
-use Rattle.std.proofs.Common.{ℕ, ◌≤◌, ◌≡◌, arith, flat_map, if◌then◌else◌, Bool, true, false, ◌==◌, List, [], ◌∷◌, ◌++◌, Some, refl, sym, ap, ◌∙◌, subst, eqb-true, eq-eqb, nat_lt}
+use Rattle.std.proofs.Common.{ℕ, ◌≤◌, ◌≡◌, arith, flat_map, if◌then◌else◌, Bool, true, false, ◌==◌, List, [], ◌∷◌, ◌++◌, Some, refl, sym, ap, ◌∙◌, subst, eq-eqb}
 use Rattle.laws.proofs.Words.{cond_both, both_ways, and_parts, false≢true, flat_map-append, filter-append}
-use Rattle.laws.specs.Words.{AllByRecursion, Action, Close, Send, Forget, Addr, Peer, CloseCause, Unused, Order, Promote, is_acquirable, is_live, is_live_at, same_address, Effect, nothing_more, then_do, entry_turns, entry_goes, with_entry, without_entry, ending, vanishes, closing_entry, lost_by, acquire, dial, carries_out, promoted_at, peer_changes, peer_comes, peer_at, Machine, Entry, entry_at, live_entry_at}
+use Rattle.laws.specs.Words.{AllByRecursion, Action, Close, Send, Forget, Addr, Peer, CloseCause, Order, Promote, is_acquirable, is_live, is_live_at, same_address, Effect, nothing_more, then_do, entry_turns, entry_goes, with_entry, without_entry, ending, vanishes, closing_entry, lost_by, acquire, dial, carries_out, promoted_at, peer_changes, peer_comes, Machine, Entry, entry_at, live_entry_at}
 use Rattle.laws.specs.Acts.{Act, carries, ends_dial, handles_item, does}
-use Rattle.laws.specs.InActions.{End, closed_by, closes_in, ends_in}
-use Rattle.laws.specs.OpenEnds.{is_open_at}
+use Rattle.laws.specs.InActions.{End, closes_in, ends_in}
+use Rattle.laws.specs.OpenEnds.{is_open_entry, is_open_at}
 use Rattle.laws.specs.Parts.{IsNext}
 use Rattle.laws.specs.Sends.{sent_on, ClosesLast, Speaks}
 use Rattle.laws.specs.Served.{Sent, sent_by, sent_in}
 use Rattle.laws.specs.Sound.{IsOrderly}
-use Rattle.laws.specs.Stages.{stage_at, causes_by, causes_in, stage_ended, IsOneEnd}
+use Rattle.laws.specs.Stages.{stage_at, causes_by, causes_in, IsOneEnd}
 use Rattle.laws.specs.Telling.{IsTold}
 use Rattle.laws.proofs.Finds.{replaced, gone-found}
 use Rattle.laws.proofs.Lawful.{comes-machine, lost-quiet, lost_by-quiet, stands-found}
@@ -17,8 +17,7 @@ use Rattle.laws.proofs.Lists.{find_some, all-weaker, all-true, all-appended}
 use Rattle.laws.proofs.Moments.{ending-none}
 use Rattle.laws.proofs.OpenEnds.{live-stage}
 use Rattle.laws.proofs.Sends.{sends-right}
-use Rattle.laws.proofs.Silent.{sent-deaf, turns-silent, changed-silent, comes-silent, ending-silent, vanishes-silent}
-use Rattle.laws.proofs.ToldMoves.{turns_at-connections}
+use Rattle.laws.proofs.Silent.{sent-deaf, turns-silent, comes-silent, ending-silent, vanishes-silent}
 use Rattle.laws.proofs.Walk.{Finds, Scope, on_those, turned_by, turned-cid, shuts, Kept, scope_of, walk, acquire-walk, orders-walk, orderly-finds}
 use Rattle.laws.proofs.Cases.{by_option}
 
@@ -102,8 +101,10 @@ spoken-kept scope undialed shut = record {
   when_stored = λ undecoded e m stands came. turned-spoken e (record e { undecoded = undecoded }) m stands.found refl (λ live. live);
   when_shut = λ e m stands drops. unsaid-spoken m (shuts e m) (turns-silent sent_by sent-deaf e (closing_entry m e) m) (grind (arith, stands.found, replaced e.facts.cid.0 (closing_entry m e) m.connections))
       (turned-back e (closing_entry m e) m stands.found refl (λ live. absurd (false≢true live)));
-  when_ended = λ cause e m. unsaid-spoken m (ending cause e m) (ending-silent sent_by sent-deaf cause e m)
-      (λ open_. false≢true (sym (grind (arith, ending-none cause e m)) ∙ open_), subst (AllByRecursion (λ end. IsOpen (ending cause e m).machine end.cid → ⊥)) (sym (lost-nobody cause e (without_entry e.facts.cid.0 m))) tt)
+  when_ended = λ cause e m. unsaid-spoken m (ending cause e m) (ending-silent sent_by sent-deaf cause e m) (
+    λ open_. false≢true (sym (ap is_open_entry (ending-none cause e m)) ∙ open_),
+    subst (AllByRecursion (λ end. IsOpen (ending cause e m).machine end.cid → ⊥)) (sym (lost-nobody cause e (without_entry e.facts.cid.0 m))) tt,
+  )
       (gone-back e m (ending cause e m).machine (lost_by-quiet cause e.facts (without_entry e.facts.cid.0 m)).connections);
   when_gone = λ e m itself. quiet-spoken m (vanishes e m) (vanishes-silent sent_by sent-deaf e m) (grind arith)
       (gone-back e m (vanishes e m).machine (lost-quiet e.facts (without_entry e.facts.cid.0 m)).connections);

@@ -1,12 +1,12 @@
 -- A connection whose handshake is done: whatever comes in, the connections stay in order and within the limit.
-use Rattle.std.proofs.Common.{ℕ, ◌+◌, [], ◌∷◌, cond, not, is_some, ◌≤◌, ◌≡◌, Bool, true, false, ◌||◌, ◌==◌, if◌then◌else◌, List, find, set, Option, Some, None, Result, Ok, Err, refl, sym, ap, ◌∙◌, subst, arith, eqb-true}
+use Rattle.std.proofs.Common.{ℕ, ◌+◌, [], ◌∷◌, is_some, ◌≤◌, ◌≡◌, Bool, true, false, ◌||◌, ◌==◌, if◌then◌else◌, List, find, set, Option, Some, None, Result, Ok, Err, refl, sym, ap, ◌∙◌, subst, arith, eqb-true}
 use Rattle.laws.proofs.Words.{cond_both, both_ways, false≢true, or_right}
-use Rattle.laws.specs.Words.{same_address, Fault, FaultKind, Protocol, UnknownId, Addr, Facts, Responders, Peer, Hot, awakened, idled, effective_of, has_responder, is_live, agreed_sharing, has_id, is_negotiated, runs, some_runs, Item, watched, seen_by_number, chain_sync_seen, block_fetch_seen, tx_submission_seen, keep_alive_seen, peer_sharing_seen, Reply, Seen, item_number_of, alive_of, share_of, Share, is_established, Machine, Entry, Owed, counted_in, entry_at, live_entry_at, Effect, shared, nothing_more, then_do, on_entry, on_connection, peer_at, peer_becomes, peer_comes, with_entry, entry_turns, ending, trim, awake, idle, replies, stops_if, serves, begins, takes_requests, shares_address, taken_of, takes_addresses, brings, talks, reply_on, without_reply, paid, Cid}
+use Rattle.laws.specs.Words.{same_address, Fault, FaultKind, Protocol, UnknownId, Addr, Facts, Responders, Peer, Hot, awakened, idled, effective_of, has_responder, is_live, agreed_sharing, has_id, is_negotiated, runs, some_runs, Item, watched, seen_by_number, chain_sync_seen, block_fetch_seen, tx_submission_seen, keep_alive_seen, peer_sharing_seen, Reply, Seen, item_number_of, alive_of, share_of, Share, Machine, Entry, Owed, counted_in, entry_at, live_entry_at, Effect, shared, nothing_more, then_do, on_entry, on_connection, peer_at, peer_becomes, peer_comes, with_entry, entry_turns, ending, trim, awake, idle, replies, stops_if, serves, begins, takes_requests, shares_address, taken_of, takes_addresses, brings, talks, reply_on, without_reply, paid, Cid}
 use Rattle.laws.specs.Words.reply
 use Rattle.laws.specs.Words.share
 use Rattle.laws.proofs.Effects.{counted-running}
 use Rattle.laws.proofs.Entries.{TurnsInto, turned-connections}
-use Rattle.laws.specs.AtMoves.{IsLawful, is_up, is_hot_peer, is_asked_connection, is_hot_or_asked, is_known, promotes, activates, shares}
+use Rattle.laws.specs.AtMoves.{IsLawful, is_up, is_asked_connection, is_hot_or_asked, is_known, promotes, activates, shares}
 use Rattle.laws.proofs.KnownWanted.{takes-within}
 use Rattle.laws.proofs.Lawful.{Accounts, IsQuiet, quiet-lawful, quiet-obeys, tells-quiet, comes-providing, shared-accounts, turns-obeys, IsAllowed, Within, allowed_within, as_move-obeys, stands-found}
 use Rattle.laws.proofs.Keeping.{Keeps, keeps_nothing, moves_then, moves-keeps, keeps-moves, changes-moves, peer_comes-keeps}
@@ -14,7 +14,7 @@ use Rattle.laws.proofs.Lists.{StandsAt, stands-set, find_some}
 use Rattle.laws.specs.Steady.{AreTied, TiedBy, IsOrdered}
 use Rattle.laws.proofs.Addresses.{same_address-true}
 use Rattle.laws.proofs.Owing.{paid-some}
-use Rattle.laws.proofs.Rises.{is_asked, is_hot, NoneConnected, or_each, rises_nowhere, same-connected, connected_then, IsNoHigher, turned-connected, changed-known}
+use Rattle.laws.proofs.Rises.{is_asked, is_hot, NoneConnected, rises_nowhere, same-connected, connected_then, IsNoHigher, turned-connected, changed-known}
 use Rattle.laws.proofs.Telling.{told_then}
 use Rattle.laws.proofs.ToldMoves.{turned-told, changes-told, turns_at-moves, turns_at-connections}
 use Rattle.laws.proofs.Ties.{changed-ties, turned_here, turned_elsewhere, live_here, turns_at-elsewhere}
@@ -23,7 +23,7 @@ use Rattle.laws.proofs.WholeMoves.{negotiated-live, awakes-keeps, idles-keeps, p
 use Rattle.laws.proofs.OwnAddress.{IsOther, taken-other}
 use Rattle.laws.proofs.Remains.{woken-runs as protocol-runs}
 use Rattle.laws.proofs.Walk.{replies-machine, trim-found}
-use Rattle.laws.proofs.Cases.{by_bool, by_option, some_same}
+use Rattle.laws.proofs.Cases.{by_option, some_same}
 use Rattle.laws.proofs.ItemCases.{talks-cases}
 
 -- ---- only known protocols are answered

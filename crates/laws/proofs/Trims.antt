@@ -1,6 +1,6 @@
 -- Where more connections are counted than the hard limit, one of them goes.
 use Rattle.std.proofs.Common.{ℕ, ◌+◌, ◌≤◌, ◌<◌, ◌≡◌, Bool, true, false, not, nat_le, if◌then◌else◌, List, [], ◌∷◌, ◌++◌, map, filter_map, find, Option, Some, None, refl, sym, ap, ◌∙◌, subst, arith, eq-eqb, leb-true, leb-false, All}
-use Rattle.laws.proofs.Words.{cond_both, both_ways, and_parts, not-true, All-head, All-tail, All-from_recursion, recursion_from_All, first_to_go-law}
+use Rattle.laws.proofs.Words.{cond_both, and_parts, not-true, All-head, All-tail, All-from_recursion, recursion_from_All, first_to_go-law}
 use Rattle.laws.specs.Words.{AllByRecursion, cons_option, option_map, unwrap_or, Settings, CloseCause, Pruned, Cid, Facts, IsFirstToGo, is_candidate, rank_of_candidate, goes_before, first_of, first_to_go, Candidate, is_counted, has_id, is_live, is_negotiated, Machine, Entry, counted_in, entry_at, Effect, Happened, Move, nothing_more, then_do, as_move, for_each, on_entry, without_entry, lost, ending, candidate_of, candidates_in, trim}
 use Rattle.laws.specs.AtMoves.{as_candidate, IsDueToGo, IsPrunedRightly, IsLawful}
 use Rattle.laws.specs.Laws.{LocalsAreOrdinary}
@@ -64,8 +64,7 @@ goes_among (x ∷ es) c e = by_option (candidate_of x.facts)
     (λ d is later same. by_rest d (first_to_go (candidates_among es)) is later same) (goes_among es) e
   where
     here : (d : Candidate) → candidate_of x.facts ≡ Some d → d ≡ c → Goes (x ∷ es) c
-    here d is same =
-        record { entry = x; place = 0; stands = record { inside = omega arith; is = refl }; facts = subst (IsCandidateAs x.facts) same (candidate-counted x.facts d is) }
+    here d is same = grind (arith, candidate-counted x.facts d is)
 
     by_rest : (d : Candidate) (o : Option Candidate) → candidate_of x.facts ≡ Some d →
         ((a : Candidate) → o ≡ Some a → Goes es a) → Some (first_of d o) ≡ Some c → Goes (x ∷ es) c
@@ -80,11 +79,7 @@ goes_among (x ∷ es) c e = by_option (candidate_of x.facts)
 -- what holds of each candidate holds of each connection that may go
 may_go-all : (P : Candidate → Type 0) (es : List Entry) → AllByRecursion P (candidates_among es) → AllByRecursion (λ f. is_candidate f.facts ≡ true → P (as_candidate f)) es
 may_go-all P [] h = tt
-may_go-all P (f ∷ es) h = by_bool (is_candidate f.facts)
-    (λ b. (AllByRecursion P (candidates_among es) → AllByRecursion (λ x. is_candidate x.facts ≡ true → P (as_candidate x)) es) →
-    AllByRecursion P (cons_option (option_map (λ rank. record { cid = f.facts.cid; rank = rank }) (if b then Some (rank_of_candidate f.facts) else None)) (candidates_among es)) →
-    (is_candidate f.facts ≡ true → P (as_candidate f)) × AllByRecursion (λ x. is_candidate x.facts ≡ true → P (as_candidate x)) es)
-    (λ is later h. (λ may. h.0, later h.1)) (λ is later h. (λ may. absurd (both_ways (is_candidate f.facts) is may), later h)) (may_go-all P es) h
+may_go-all P (f ∷ es) h = grind (arith, may_go-all P es)
 
 choice_law : (m : Machine) (o : Option Candidate) → first_to_go (candidates_in m) ≡ o → IsFirstToGo o (candidates_in m)
 choice_law m o is = subst (λ c. IsFirstToGo c (candidates_in m)) is (first_to_go-law (candidates_in m))
@@ -164,7 +159,8 @@ pub record HasMoved (moved : Cid) (m : Machine) : Type 0 where
 pub found_by_id : (m : Machine) (e : Entry) (k : ℕ) (cid : Cid) → IsOrderly m → StandsAt m.connections k e → e.facts.cid ≡ cid →
     entry_at cid.0 m ≡ Some e
 found_by_id m e k cid h s same =
-    grind (arith, find_only (λ x. has_id cid.0 x.facts) e m.connections k (one_has_id cid.0 m.connections h.ids_rise) s (eq-eqb e.facts.cid.0 cid.0 (ap (λ c. c.0) same)), one_has_id cid.0 m.connections h.ids_rise)
+    find_only (λ x. has_id cid.0 x.facts) e m.connections k (one_has_id cid.0 m.connections h.ids_rise) s
+    (eq-eqb e.facts.cid.0 cid.0 (ap (λ c. c.0) same))
 
 pub trim-trims : (moved : Cid) (m : Machine) → IsOrdered m → counted_in m ≤ m.settings.hard + 1 →
     (m.settings.hard < counted_in m → HasMoved moved m) → Trimmed IsLawful m (trim moved m)

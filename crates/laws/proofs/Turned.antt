@@ -1,7 +1,7 @@
 -- What becomes of the connection that a part of an event is about.
 use Rattle.std.proofs.Common.{ℕ, ◌+◌, ◌<◌, ◌≡◌, Bool, true, false, ◌&&◌, ◌==◌, if◌then◌else◌, find, Option, Some, None, Result, Ok, Err, refl, sym, ap, ◌∙◌, subst, eqb-true, arith}
 use Rattle.laws.proofs.Words.{cond_both, both_ways, and_parts, false≢true, false_from_ne_true}
-use Rattle.laws.specs.Words.{connected, agreed_inbound, agreed_outbound, acquired, released, awakened, idled, expired, has_id, is_acquirable, is_dialing, is_live, is_live_at, agreed_sharing, runs, Order, Ask, Forget, Promote, Release, Activate, Deactivate, verdict_of, answer_of, Verdict, message_of, Message, kind_of, CutFault, Item, same_address, CloseCause, Refused, Query, Fault, FaultKind, Protocol, Addr, Phase, Greeting, Negotiated, Cold, Warm, Kind, watched, Seen, with_entry, ending, vanishes, closing_entry, acquire, trim, release, awake, dial, dial_opens, dial_fails, fires_as, Effect, nothing_more, then_do, on_entry, closes, dialed, promoted_at, is_used_at, on_used, asks_peer, activates, deactivates, carries_out, role_of, judged, decided, greets, Machine, Entry, entry_at, live_entry_at, own_info, peer_at, owing, paid, handled_in, handled, faulted, serves, begins, brings, Facts, is_used, on_connection}
+use Rattle.laws.specs.Words.{connected, agreed_inbound, agreed_outbound, acquired, released, awakened, idled, expired, has_id, is_acquirable, is_dialing, is_live, is_live_at, agreed_sharing, runs, Order, Ask, Forget, Promote, Release, Activate, Deactivate, verdict_of, answer_of, Verdict, message_of, Message, kind_of, CutFault, Item, same_address, CloseCause, Refused, Query, Fault, FaultKind, Protocol, Addr, Phase, Greeting, Negotiated, Cold, Kind, watched, Seen, with_entry, ending, vanishes, closing_entry, acquire, trim, release, awake, dial, dial_opens, dial_fails, fires_as, Effect, nothing_more, then_do, on_entry, closes, dialed, promoted_at, is_used_at, on_used, asks_peer, activates, carries_out, role_of, judged, decided, greets, Machine, Entry, entry_at, live_entry_at, own_info, peer_at, owing, paid, handled_in, handled, faulted, serves, begins, brings, Facts, is_used, on_connection}
 use Rattle.laws.specs.Words.verdict
 use Rattle.laws.specs.Words.kind
 use Rattle.laws.specs.Acts.{Act, fires_one, carries, ends_dial, stores, handles_item, ends_stream, is_closed, does}

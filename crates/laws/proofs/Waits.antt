@@ -1,14 +1,13 @@
 -- How long is waited, and what is left as it was, through each change of a connection.
-use Rattle.std.proofs.Common.{ℕ, ◌+◌, ◌<◌, ◌≤◌, ◌≡◌, ◌⊎◌, Bool, true, false, cond, not, ◌==◌, nat_lt, if◌then◌else◌, List, [], ◌∷◌, ◌++◌, filter, find, Option, Some, None, refl, sym, ap, ◌∙◌, subst, inl, inr, arith, eqb-true}
-use Rattle.laws.proofs.Words.{find-append, both_ways}
+use Rattle.std.proofs.Common.{ℕ, ◌+◌, ◌<◌, ◌≤◌, ◌≡◌, ◌⊎◌, Bool, true, false, cond, not, ◌==◌, nat_lt, if◌then◌else◌, List, [], ◌∷◌, ◌++◌, filter, find, Option, Some, None, refl, sym, ap, ◌∙◌, subst, inl, arith, eqb-true}
+use Rattle.laws.proofs.Words.{find-append}
 use Rattle.laws.specs.Words.{option_map, option_or, has_id, nothing_undecoded, Peer, Kind, with_entry, without_entry, Machine, Entry, Owed, entry_at, reply_on, owing, paid}
 use Rattle.laws.specs.CarriedOut.{IsUnset}
 use Rattle.laws.specs.Untouched.{IsAsItWas, KeepsBytes}
-use Rattle.laws.specs.Waits.{until_paid, until_of, until_in, until_at, length_of, IsWait}
+use Rattle.laws.specs.Waits.{until_paid, until_of, until_in, length_of, IsWait}
 use Rattle.laws.proofs.Walk.{Scope}
 pub use Rattle.laws.proofs.Finds.{replaced, gone-found}
 use Rattle.laws.proofs.Finds.{found-filter}
-use Rattle.laws.proofs.Lists.{not_below}
 use Rattle.laws.proofs.Cases.{by_bool}
 
 -- ---- one wait

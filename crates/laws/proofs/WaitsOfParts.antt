@@ -1,13 +1,13 @@
 -- How long is waited, what is set, and what is left as it was, in each part of an event.
-use Rattle.std.proofs.Common.{ℕ, ◌+◌, ◌%◌, ◌≡◌, ◌⊎◌, false, ◌||◌, find, Option, Some, None, refl, sym, subst, inl, inr, arith}
-use Rattle.laws.proofs.Words.{cond_both, both_ways}
-use Rattle.laws.specs.Words.{dialing, accepted, agreed_inbound, agreed_outbound, acquired, released, awakened, idled, expired, has_id, is_for_remote, some_runs, with_responder, failed_peer, Undecoded, CloseCause, Overwritten, Addr, Facts, Off, ForRemote, ForLocal, Negotiated, Peer, Kind, entry_of, entered, new_peer, without_entry, is_missed, lost, lost_by, ending, vanishes, closing_entry, dial, Effect, nothing_more, admitted, Machine, Entry, fresh_entry, entry_at, peer_at, turns_at, peer_fails, peer_goes, owing, paid, Order}
+use Rattle.std.proofs.Common.{ℕ, ◌+◌, ◌≡◌, ◌⊎◌, false, Option, Some, None, refl, sym, subst, inl, inr, arith}
+use Rattle.laws.proofs.Words.{both_ways}
+use Rattle.laws.specs.Words.{dialing, accepted, agreed_inbound, awakened, expired, Undecoded, CloseCause, Overwritten, Addr, Facts, Negotiated, Peer, Kind, entry_of, entered, new_peer, without_entry, lost, lost_by, ending, vanishes, closing_entry, dial, Effect, admitted, Machine, Entry, fresh_entry, peer_at, turns_at, peer_goes, owing, paid, Order}
 use Rattle.laws.specs.Words.kind
-use Rattle.laws.specs.Acts.{Act, shows, asks_for_roots, carries, sets_targets, sets_big_targets, sets_groups, sets_roots, does}
+use Rattle.laws.specs.Acts.{Act, carries, does}
 use Rattle.laws.specs.CarriedOut.{IsUnset, IsSet}
 use Rattle.laws.specs.Parts.{IsNext}
 use Rattle.laws.specs.Steady.{IsOrdered}
-use Rattle.laws.specs.Untouched.{may_close, IsAsItWas, KeepsBytes, LeavesRest}
+use Rattle.laws.specs.Untouched.{LeavesRest}
 use Rattle.laws.specs.Waits.{until_of, until_unused, length_of, IsWait, WaitsRight}
 use Rattle.laws.proofs.Keeping.{note-machine}
 use Rattle.laws.proofs.RootsAsked.{roots-set}

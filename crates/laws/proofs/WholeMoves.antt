@@ -13,7 +13,6 @@ use Rattle.laws.proofs.Owing.{OwesNothing, nothing-owing, nothing_owed, alike-ow
 use Rattle.laws.proofs.Ties.{turned-ties, gone-ties, changed-ties, gone_here, gone_elsewhere, turned_here, turned_elsewhere, live_here}
 use Rattle.laws.proofs.Settings.{first_failing-none, interval-positive, handshake-positive}
 use Rattle.laws.proofs.Shapes.{connected-shaped, agreed_inbound-shaped, agreed_outbound-shaped, acquired-shaped, released-shaped, awakened-shaped, idled-shaped, running-negotiated, greeting-unnegotiated, serves_remote, can_acquire}
-use Rattle.laws.proofs.Cases.{by_bool}
 
 -- ---- intervals
 
@@ -48,8 +47,7 @@ missed-live : (f : Facts) → IsShaped f → is_missed f ≡ true → is_live f 
 missed-live f shape missed = grind arith
 
 not_missed-unused : (f : Facts) → is_missed f ≡ false → f.local ≡ false
-not_missed-unused f h = by_bool f.local (λ b. (b || is_pending f) ≡ false → b ≡ false)
-    (λ is h. absurd (false≢true (sym h))) (λ is h. refl) h
+not_missed-unused f h = grind arith
 
 lost-ties : (m : Machine) (e : Entry) (k : ℕ) → IsOrdered m → StandsAt m.connections k e → IsTied m →
     IsTied (lost e.facts (without_entry e.facts.cid.0 m)).machine
@@ -82,15 +80,12 @@ IsLost cause = lost_by cause ≡ lost
 
 pub ending-keeps : (cause : CloseCause) → IsLost cause → (m : Machine) (e : Entry) (k : ℕ) → IsOrdered m → StandsAt m.connections k e →
     Keeps 0 m (ending cause e m).machine
-ending-keeps cause loses m e k h s =
-    subst (λ act. Keeps 0 m (act e.facts (without_entry e.facts.cid.0 m)).machine) (sym loses) (gone_lost-keeps m e k h s)
+ending-keeps cause loses m e k h s = grind (arith, gone_lost-keeps)
 
 -- one that gives way to another
 pub overwritten-keeps : (m : Machine) (e : Entry) (k : ℕ) → IsOrdered m → StandsAt m.connections k e → is_pending e.facts ≡ true →
     Keeps 0 m (ending Overwritten e m).machine
-overwritten-keeps m e k h s pending =
-    moves-keeps 0 m (ending Overwritten e m).machine (goes-moves m e k h s)
-    (gone-ties m e k h.orderly s (λ live. ((stands-shaped m e k h s).unused (pending-unnegotiated e.facts pending)).local))
+overwritten-keeps m e k h s pending = grind (arith, moves-keeps, goes-moves, gone-ties, stands-shaped, pending-unnegotiated)
 
 pub vanishes-keeps : (m : Machine) (e : Entry) (k : ℕ) → IsOrdered m → StandsAt m.connections k e →
     Keeps 0 m (vanishes e m).machine
@@ -332,9 +327,7 @@ owes-moves protocol asked m e k h s may =
 owed-keeps : (protocol asked : ℕ) (m : Machine) (e : Entry) (k : ℕ) → IsOrdered m → StandsAt m.connections k e → MayOwe protocol e →
     ((o : Option Peer) → peer_at e.facts.addr m ≡ o → TiedBy m.now o (Some e) → TiedBy m.now o (Some (owing protocol asked m e))) →
     Keeps 0 m (with_entry (owing protocol asked m e) m)
-owed-keeps protocol asked m e k h s may tied =
-    moves-keeps 0 m (with_entry (owing protocol asked m e) m) (owes-moves protocol asked m e k h s may)
-    (turned-ties m e (owing protocol asked m e) k h.orderly s (record { same_id = refl; same_addr = refl; live = λ l. l }) (λ live o is tie. rw live (tied o is tie)))
+owed-keeps protocol asked m e k h s may tied = grind (arith, owes-moves protocol asked m e k h s may, moves-keeps, turned-ties)
 
 -- but on chain-sync
 pub owes-keeps : (protocol asked : ℕ) (m : Machine) (e : Entry) (k : ℕ) → IsOrdered m → StandsAt m.connections k e → MayOwe protocol e → (protocol == 2) ≡ false →
