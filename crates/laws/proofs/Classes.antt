@@ -1,7 +1,7 @@
 -- Whoever stays in the book keeps the class, and whoever comes is of the class that is brought.
-use Rattle.std.proofs.Common.{ℕ, ◌≡◌, Bool, true, false, List, [], ◌∷◌, is_some, Option, Some, None, refl, sym, ap, ◌∙◌, subst}
+use Rattle.std.proofs.Common.{◌≡◌, Bool, true, false, [], ◌∷◌, Option, Some, None, refl, sym, ap, ◌∙◌, subst}
 use Rattle.laws.proofs.Words.{cond_both, both_ways, false≢true}
-use Rattle.laws.specs.Words.{option_map, same_address, Addr, Facts, Peer, CloseCause, Overwritten, Order, Forget, Send, failed_peer, new_peer, entered, lost, is_missed, ending, vanishes, without_entry, entry_turns, entry_goes, dial, admitted, turned_away, Effect, nothing_more, tells, then_do, peer_fails, peer_changes, peer_is_ordinary, peer_comes, peer_goes, peer_at, Machine, Entry, Undecoded}
+use Rattle.laws.specs.Words.{option_map, same_address, Addr, Facts, Peer, CloseCause, Overwritten, Forget, Send, failed_peer, new_peer, lost, is_missed, ending, without_entry, entry_turns, entry_goes, dial, admitted, turned_away, Effect, nothing_more, tells, peer_fails, peer_changes, peer_is_ordinary, peer_comes, peer_goes, peer_at, Machine, Entry}
 use Rattle.peer_book.specs.Book.{peer_at as peer_in, with_new as with_new_in}
 use Rattle.laws.specs.Acts.{Act, shows, asks_for_roots, carries, sets_targets, sets_big_targets, sets_groups, sets_roots, makes_ordinary, does}
 use Rattle.laws.specs.CarriedOut.{OnPeer, is_made_ordinary, brings_class, IsOfClass, KeepsClass}

@@ -1,5 +1,5 @@
 -- Whom each part of an event ends: whom it must, and nobody else but by pruning; and whom it prunes.
-use Rattle.std.proofs.Common.{ℕ, ◌≡◌, Bool, false, ◌&&◌, ◌==◌, if◌then◌else◌, List, [], ◌∷◌, ◌++◌, map, filter, find, Option, Some, None, Result, Ok, Err, refl, ap, ◌∙◌, arith}
+use Rattle.std.proofs.Common.{ℕ, ◌≡◌, Bool, false, ◌&&◌, if◌then◌else◌, List, [], ◌∷◌, ◌++◌, map, filter, find, Option, Some, None, Result, Ok, Err, refl, ap, ◌∙◌, arith}
 use Rattle.laws.proofs.Words.{flat_map-append, filter-append}
 use Rattle.laws.specs.Words.{AllByRecursion, unwrap_or, choice_of, is_pending, agreed_sharing, Order, Release, answer_of, Verdict, CutFault, Item, address_below, CloseCause, OwnAddr, FaultKind, Malformed, Protocol, HandshakeWait, ReplyWait, awakened, Addr, Cid, Phase, Greeting, Negotiated, Cold, Hot, Kind, Handshake, TimeWait, watched, Seen, kind_of, with_entry, without_entry, entry_turns, ending, candidates_in, trim, says_done, release, fires_as, Effect, Happened, promoted, activated, shared, on_entry, on_connection, nothing_more, then_do, as_move, turned_away, accepted_beside, peer_connects, promoted_at, promote, is_used_at, on_used, activates, activate, carries_out, sends_answer, judged, greets, Machine, Entry, Owed, entry_at, live_entry_at, own_info, peer_at, peer_becomes, peer_is_ordinary, peer_comes, comes_ordinary, reply_on, paid, handled_in, handled, faulted, serves, begins, takes_requests, asked_as, pays, brings, answered_as, talks}
 use Rattle.laws.specs.Words.cut
@@ -136,10 +136,7 @@ module _ (P : End → Type 0) where
   talks-ends : (item : Item) (e : Entry) (m : Machine) → Chosen P e.facts.cid (woken item.id e m) → EndsAs (talks item e m) (map (end_of e) (causes_of_fault (fault_of item e)))
   talks-ends item e m chosen =
       let seen : Result Seen FaultKind = watched item.id (agreed_sharing e.facts.agreed) item.body in
-      by_bool (item.side == 0)
-      (λ b. EndsAs (if b then asked_as seen item.id e m else answered_as (reply_on item.id e) item e m)
-      (map (end_of e) (causes_of_fault (if b then fault_of_request seen e.facts else fault_of_answer (reply_on item.id e) item.body))))
-      (λ is. asked_as-ends seen item.id e m chosen) (λ is. answered_as-ends (reply_on item.id e) item e m)
+      grind (arith, asked_as-ends seen item.id e m chosen, answered_as-ends (reply_on item.id e) item e m)
 
   handled_in-ends : (p : Phase) (item : Item) (e : Entry) (m : Machine) → Chosen P e.facts.cid (woken item.id e m) → EndsAs (handled_in p item e m) (map (end_of e) (causes_of_item p item e m))
   handled_in-ends (Greeting until) item e m chosen = greets-ends item e m

@@ -1,7 +1,7 @@
 -- What is said is said to who is open, and behind the close of a connection nothing.
 use Rattle.std.proofs.Common.{ℕ, ◌≤◌, ◌≡◌, arith, flat_map, if◌then◌else◌, Bool, true, false, ◌==◌, List, [], ◌∷◌, ◌++◌, Some, refl, sym, ap, ◌∙◌, subst, eq-eqb}
 use Rattle.laws.proofs.Words.{cond_both, both_ways, and_parts, false≢true, flat_map-append, filter-append}
-use Rattle.laws.specs.Words.{AllByRecursion, Action, Close, Send, Forget, Addr, Peer, CloseCause, Order, Promote, is_acquirable, is_live, is_live_at, same_address, Effect, nothing_more, then_do, entry_turns, entry_goes, with_entry, without_entry, ending, vanishes, closing_entry, lost_by, acquire, dial, carries_out, promoted_at, peer_changes, peer_comes, Machine, Entry, entry_at, live_entry_at}
+use Rattle.laws.specs.Words.{AllByRecursion, Action, Close, Send, Forget, Addr, Peer, CloseCause, Order, Promote, is_acquirable, is_live, is_live_at, same_address, Effect, nothing_more, then_do, entry_turns, entry_goes, with_entry, without_entry, ending, lost_by, acquire, dial, carries_out, promoted_at, peer_changes, Machine, Entry, entry_at, live_entry_at}
 use Rattle.laws.specs.Acts.{Act, carries, ends_dial, handles_item, does}
 use Rattle.laws.specs.InActions.{End, closes_in, ends_in}
 use Rattle.laws.specs.OpenEnds.{is_open_entry, is_open_at}
@@ -12,12 +12,12 @@ use Rattle.laws.specs.Sound.{IsOrderly}
 use Rattle.laws.specs.Stages.{stage_at, causes_by, causes_in, IsOneEnd}
 use Rattle.laws.specs.Telling.{IsTold}
 use Rattle.laws.proofs.Finds.{replaced, gone-found}
-use Rattle.laws.proofs.Lawful.{comes-machine, lost-quiet, lost_by-quiet, stands-found}
+use Rattle.laws.proofs.Lawful.{lost-quiet, lost_by-quiet, stands-found}
 use Rattle.laws.proofs.Lists.{find_some, all-weaker, all-true, all-appended}
 use Rattle.laws.proofs.Moments.{ending-none}
 use Rattle.laws.proofs.OpenEnds.{live-stage}
 use Rattle.laws.proofs.Sends.{sends-right}
-use Rattle.laws.proofs.Silent.{sent-deaf, turns-silent, comes-silent, ending-silent, vanishes-silent}
+use Rattle.laws.proofs.Silent.{sent-deaf, turns-silent, ending-silent, vanishes-silent}
 use Rattle.laws.proofs.Walk.{Finds, Scope, on_those, turned_by, turned-cid, shuts, Kept, scope_of, walk, acquire-walk, orders-walk, orderly-finds}
 use Rattle.laws.proofs.Cases.{by_option}
 
@@ -99,23 +99,20 @@ spoken-kept scope undialed shut = record {
   when_sent = λ cid bytes m may. record { said = record { to_open = (may.open_, tt); closed = tt; last = tt }; back = λ cid open_. open_ };
   when_turned = λ turn e m t. turned-spoken e (turned_by turn e m) m t.found (turned-cid turn e m) t.back;
   when_stored = λ undecoded e m stands came. turned-spoken e (record e { undecoded = undecoded }) m stands.found refl (λ live. live);
-  when_shut = λ e m stands drops. unsaid-spoken m (shuts e m) (turns-silent sent_by sent-deaf e (closing_entry m e) m) (grind (arith, stands.found, replaced e.facts.cid.0 (closing_entry m e) m.connections))
-      (turned-back e (closing_entry m e) m stands.found refl (λ live. absurd (false≢true live)));
+  when_shut = λ e m stands drops. grind (arith, unsaid-spoken, shuts, turns-silent, sent-deaf, replaced, turned-back);
   when_ended = λ cause e m. unsaid-spoken m (ending cause e m) (ending-silent sent_by sent-deaf cause e m) (
     λ open_. false≢true (sym (ap is_open_entry (ending-none cause e m)) ∙ open_),
     subst (AllByRecursion (λ end. IsOpen (ending cause e m).machine end.cid → ⊥)) (sym (lost-nobody cause e (without_entry e.facts.cid.0 m))) tt,
   )
       (gone-back e m (ending cause e m).machine (lost_by-quiet cause e.facts (without_entry e.facts.cid.0 m)).connections);
-  when_gone = λ e m itself. quiet-spoken m (vanishes e m) (vanishes-silent sent_by sent-deaf e m) (grind arith)
-      (gone-back e m (vanishes e m).machine (lost-quiet e.facts (without_entry e.facts.cid.0 m)).connections);
+  when_gone = λ e m itself. grind (arith, quiet-spoken, vanishes-silent, sent-deaf, gone-back, lost-quiet);
   when_over = λ e m stands drops closed. quiet-spoken m (entry_goes e m) refl refl (gone-back e m (entry_goes e m).machine refl);
   when_dialed = λ addr m may. absurd (both_ways scope.dials undialed may);
   when_admitted = λ addr m may. absurd (both_ways scope.lets_in shut may);
   when_turned_away = λ away m may. absurd (both_ways scope.lets_in shut may);
   when_changed = λ addr change m same. changed-spoken addr change m;
   when_made = λ addr m may. changed-spoken addr (λ p. record p { big = false }) m;
-  when_known = λ big addr m may. quiet-spoken m (peer_comes big addr m) (comes-silent sent_by sent-deaf big addr m) (grind arith)
-      (same-back m (peer_comes big addr m).machine (ap (λ n. n.connections) (comes-machine big addr m)));
+  when_known = λ big addr m may. grind arith;
   when_forgotten = λ addr m may. quiet-spoken m (carries_out (Forget addr) m) refl refl (λ cid open_. open_);
 }
 
@@ -184,8 +181,7 @@ speaks_then m first next told one two =
     (λ cid early. let on = (told.connections cid).forward in omega (arith, early, on)) (λ cid never. absurd never)
     (record {
       to_open = one.to_open;
-      closed = subst (AllByRecursion (λ end. stage_at end.cid n ≤ 3 → ⊥)) (sym told.closes)
-          (all-weaker (λ end. 4 ≤ stage_at end.cid n) (λ end. stage_at end.cid n ≤ 3 → ⊥) (λ end over early. omega (arith, over, early)) (ends_in first.moves) late);
+      closed = grind (arith, all-weaker);
       last = one.closes_last;
     })
     (record { to_open = two.to_open; closed = all-true (λ end. ⊥ → ⊥) (λ end never. never) (closes_in (next n).actions); last = two.closes_last }) in

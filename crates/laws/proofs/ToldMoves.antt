@@ -4,7 +4,6 @@ use Rattle.laws.proofs.Words.{cond_both, both_ways, All-weaker}
 use Rattle.laws.specs.Words.{option_map, name_of, name_place, same_name, has_id, same_address, Action, Admit, Dial, Close, State, CloseCause, PeerNote, StateName, ReservedOutbound, UnnegotiatedInbound, UnnegotiatedOutbound, Duplex, OutboundUni, OutboundDupTicking, OutboundDupExpired, Inbound, InboundIdle, OutboundIdle, Terminating, Terminated, Addr, Cid, Facts, Peer, Temp, Cold, new_peer, entered_by, most_peers, same_temp, Added, New, Present, Full, with_entry, without_entry, entry_turns, entry_comes, entry_goes, Effect, Happened, Move, promoted, as_move, Machine, Entry, entry_at, peer_at, note_of, turns_at, peer_changes, note_of_coming, peer_comes, peer_goes}
 use Rattle.net_base.specs.declared.action.Action.TheVariants.{Peer as TellPeer}
 use Rattle.laws.specs.Words.note
-use Rattle.peer_book.specs.Book.{peer_at as peer_in}
 use Rattle.laws.specs.Sound.{HasGivenId, IsOrderly}
 use Rattle.laws.specs.Stages.{stage_of_phase, stage_of, stage_at, stage_ended, causes_by, IsLateCause, IsOneEnd}
 use Rattle.laws.specs.Telling.{GoesOn, IsTold}
@@ -46,27 +45,21 @@ one_name cid other before name own differs = grind arith
 no_name : (cid : ℕ) (other : Cid) (name : StateName) → (other.0 == cid) ≡ false → names_in cid (State other name ∷ []) ≡ []
 no_name cid other name apart = ap (λ c. (if c then name ∷ [] else []) ++ []) apart
 
--- ---- what tells of connections alone
+-- ---- what tells of no end, and of nobody who comes
 
-record IsNaming (actions : List Action) : Type 0 where
+record IsPlain (actions : List Action) : Type 0 where
   closes : closes_in actions ≡ []
   dials : dials_in actions ≡ []
   given : given_in actions ≡ []
-  notes : (addr : Addr) → notes_in addr actions ≡ []
 
-turn-naming : (same : Bool) (cid : Cid) (name : StateName) → IsNaming (if same then [] else State cid name ∷ [])
-turn-naming true cid name = record { closes = refl; dials = refl; given = refl; notes = λ addr. refl }
-turn-naming false cid name = record { closes = refl; dials = refl; given = refl; notes = λ addr. refl }
-
-naming-told : (m : Machine) (effect : Effect) → IsNaming effect.actions → effect.moves ≡ [] → effect.machine.peers ≡ m.peers → effect.machine.next_id ≡ m.next_id →
-    ((cid : ℕ) → GoesOn cid m effect) → IsTold m effect
-naming-told m effect naming none peers next_id each = record {
-  closes = naming.closes ∙ sym (ap ends_in none);
-  dials = naming.dials ∙ sym (ap dial_promotions_in none);
-  given = subst (λ ns. CountUp m.next_id ns effect.machine.next_id) (sym naming.given) (sym next_id);
-  addresses = subst (λ gs. AreAt gs effect.machine) (sym naming.given) tt;
-  peers = λ addr. subst (λ ns. LeadTo is_change noted (temp_at addr m) ns (temp_at addr effect.machine)) (sym (naming.notes addr))
-      (ap (λ ps. temp_of (peer_in addr ps)) (sym peers));
+plain-told : (m : Machine) (effect : Effect) → IsPlain effect.actions → effect.moves ≡ [] → effect.machine.next_id ≡ m.next_id →
+    ((addr : Addr) → LeadTo is_change noted (temp_at addr m) (notes_in addr effect.actions) (temp_at addr effect.machine)) → ((cid : ℕ) → GoesOn cid m effect) → IsTold m effect
+plain-told m effect plain none next_id peers each = record {
+  closes = plain.closes ∙ sym (ap ends_in none);
+  dials = plain.dials ∙ sym (ap dial_promotions_in none);
+  given = subst (λ ns. CountUp m.next_id ns effect.machine.next_id) (sym plain.given) (sym next_id);
+  addresses = subst (λ gs. AreAt gs effect.machine) (sym plain.given) tt;
+  peers = peers;
   connections = each;
 }
 
@@ -75,7 +68,7 @@ naming-told m effect naming none peers next_id each = record {
 pub turned-told : (m : Machine) (e new : Entry) (k : ℕ) → IsOrderly m → StandsAt m.connections k e → TurnsInto e new →
     stage_of_phase e.facts.phase ≤ stage_of_phase new.facts.phase → IsTold m (entry_turns e new m)
 turned-told m e new k h s t forward =
-    naming-told m (entry_turns e new m) (turn-naming (same_name (name_of e.facts) (name_of new.facts)) e.facts.cid (name_of new.facts)) refl refl refl
+    plain-told m (entry_turns e new m) (grind arith) refl refl (λ addr. grind arith)
     (λ cid. by_id cid (has_id cid e.facts) refl)
   where
     list : (with_entry new m).connections ≡ set m.connections k new
@@ -117,7 +110,7 @@ is_given m e k cid h s own =
 
 pub goes-told : (m : Machine) (e : Entry) (k : ℕ) → IsOrderly m → StandsAt m.connections k e → IsTold m (entry_goes e m)
 goes-told m e k h s =
-    naming-told m (entry_goes e m) (turn-naming false e.facts.cid Terminated) refl refl refl (λ cid. by_id cid (has_id cid e.facts) refl)
+    plain-told m (entry_goes e m) (record { closes = refl; dials = refl; given = refl }) refl refl (λ addr. refl) (λ cid. by_id cid (has_id cid e.facts) refl)
   where
     list : (without_entry e.facts.cid.0 m).connections ≡ remove m.connections k
     list = gone-connections m e k h s
@@ -243,37 +236,16 @@ one_note a other before after note own changes says = grind arith
 no_note : (a other : Addr) (note : PeerNote) → same_address other a ≡ false → notes_in a (TellPeer other note ∷ []) ≡ []
 no_note a other note apart = ap (λ c. (if c then note ∷ [] else []) ++ []) apart
 
--- what tells of peers alone
-record IsNoting (actions : List Action) : Type 0 where
-  closes : closes_in actions ≡ []
-  dials : dials_in actions ≡ []
-  given : given_in actions ≡ []
-  names : (cid : ℕ) → names_in cid actions ≡ []
-
 -- Of peers only the one at an address is told of, and no other changes.
-noting-told : (a : Addr) (m : Machine) (effect : Effect) → IsNoting effect.actions → effect.moves ≡ [] → effect.machine.connections ≡ m.connections →
-    effect.machine.next_id ≡ m.next_id → LeadTo is_change noted (temp_at a m) (notes_in a effect.actions) (temp_at a effect.machine) →
+noting-told : (a : Addr) (m : Machine) (effect : Effect) → IsPlain effect.actions → ((cid : ℕ) → names_in cid effect.actions ≡ []) → effect.moves ≡ [] →
+    effect.machine.connections ≡ m.connections → effect.machine.next_id ≡ m.next_id → LeadTo is_change noted (temp_at a m) (notes_in a effect.actions) (temp_at a effect.machine) →
     ((b : Addr) → same_address b a ≡ false → notes_in b effect.actions ≡ []) → ((b : Addr) → same_address b a ≡ false → peer_at b effect.machine ≡ peer_at b m) → IsTold m effect
-noting-told a m effect noting none connections next_id here untold same = record {
-  closes = noting.closes ∙ sym (ap ends_in none);
-  dials = noting.dials ∙ sym (ap dial_promotions_in none);
-  given = subst (λ ns. CountUp m.next_id ns effect.machine.next_id) (sym noting.given) (sym next_id);
-  addresses = subst (λ gs. AreAt gs effect.machine) (sym noting.given) tt;
-  peers = λ b. by_bool (same_address b a) (λ c. LeadTo is_change noted (temp_at b m) (notes_in b effect.actions) (temp_at b effect.machine))
-      (λ is. subst (λ x. LeadTo is_change noted (temp_at x m) (notes_in x effect.actions) (temp_at x effect.machine)) (sym (same_address-true b a is)) here)
-      (λ other. subst (λ notes. LeadTo is_change noted (temp_at b m) notes (temp_at b effect.machine)) (sym (untold b other)) (ap temp_of (sym (same b other))));
-  connections = λ cid.
-      went_untold cid m effect (ap (find (λ e. has_id cid e.facts)) connections) none (noting.names cid)
-      (subst (λ next. stage_at cid m ≤ stage_of (entry_at cid m) (nat_lt cid next)) (sym next_id) (omega arith));
-}
-
-turn-noting : (same : Bool) (addr : Addr) (note : PeerNote) → IsNoting (if same then [] else TellPeer addr note ∷ [])
-turn-noting true addr note = record { closes = refl; dials = refl; given = refl; names = λ cid. refl }
-turn-noting false addr note = record { closes = refl; dials = refl; given = refl; names = λ cid. refl }
-
-turns_at-noting : (o : Option Peer) (change : Peer → Peer) (m : Machine) → IsNoting (turns_at o change m).actions
-turns_at-noting None change m = record { closes = refl; dials = refl; given = refl; names = λ cid. refl }
-turns_at-noting (Some p) change m = turn-noting (same_temp p.temp (change p).temp) p.addr (note_of (change p).temp)
+noting-told a m effect plain names none connections next_id here untold same = plain-told m effect plain none next_id
+    (λ b. by_bool (same_address b a) (λ c. LeadTo is_change noted (temp_at b m) (notes_in b effect.actions) (temp_at b effect.machine))
+    (λ is. subst (λ x. LeadTo is_change noted (temp_at x m) (notes_in x effect.actions) (temp_at x effect.machine)) (sym (same_address-true b a is)) here)
+    (λ other. subst (λ notes. LeadTo is_change noted (temp_at b m) notes (temp_at b effect.machine)) (sym (untold b other)) (ap temp_of (sym (same b other)))))
+    (λ cid. went_untold cid m effect (ap (find (λ e. has_id cid e.facts)) connections) none (names cid)
+    (subst (λ next. stage_at cid m ≤ stage_of (entry_at cid m) (nat_lt cid next)) (sym next_id) (omega arith)))
 
 pub turns_at-moves : (o : Option Peer) (change : Peer → Peer) (m : Machine) → (turns_at o change m).moves ≡ []
 turns_at-moves None change m = refl
@@ -290,7 +262,7 @@ turns_at-next (Some p) change m = refl
 -- a change that leaves the address
 pub changes-told : (a : Addr) (change : Peer → Peer) (m : Machine) → ((p : Peer) → (change p).addr ≡ p.addr) → IsTold m (peer_changes a change m)
 changes-told a change m same =
-    noting-told a m (peer_changes a change m) (turns_at-noting (peer_at a m) change m) (turns_at-moves (peer_at a m) change m) (turns_at-connections (peer_at a m) change m)
+    noting-told a m (peer_changes a change m) (grind arith) (λ cid. grind arith) (turns_at-moves (peer_at a m) change m) (turns_at-connections (peer_at a m) change m)
     (turns_at-next (peer_at a m) change m)
     (subst (λ o. LeadTo is_change noted (temp_at a m) (notes_in a (peer_changes a change m).actions) (temp_of o)) (sym (changed-found a change m same)) (by_peer (peer_at a m) refl))
     (λ b other. other_note b other (peer_at a m) refl) (turns_at-elsewhere a change m same)
@@ -320,11 +292,13 @@ peer_comes-told big a m =
 
     comes : peer_at a m ≡ None → IsTold m (came New)
     comes none =
-        noting-told a m (came New) (turn-noting false a note.Known) refl refl refl
+        noting-told a m (came New) (record { closes = refl; dials = refl; given = refl }) (λ cid. refl) refl refl refl
         (subst (λ o. LeadTo is_change noted (temp_at a m) (notes_in a (came New).actions) (temp_of o)) (sym (put_in-here new m.peers none))
         (subst (λ o. LeadTo is_change noted (temp_of o) (notes_in a (came New).actions) (Some Cold)) (sym none) (one_note a a None (Some Cold) note.Known (same_address-self a) refl refl)))
         (λ b other. no_note b a note.Known (same_turned b a other)) (λ b other. put_in-elsewhere new b m.peers other)
 
 -- of a peer that is there
 pub peer_goes-told : (a : Addr) (m : Machine) → is_some (peer_at a m) ≡ true → IsTold m (peer_goes a m)
-peer_goes-told a m there = grind (arith, turn-noting, same_address-self, taken-here, noting-told, one_note, no_note, same_turned, taken-elsewhere)
+peer_goes-told a m there =
+    noting-told a m (peer_goes a m) (record { closes = refl; dials = refl; given = refl }) (λ cid. refl) refl refl refl
+    (grind (arith, there, taken-here, one_note, same_address-self)) (λ b other. no_note b a note.Forgotten (same_turned b a other)) (λ b other. taken-elsewhere a b m.peers other)

@@ -1,11 +1,11 @@
 -- What becomes of the connection that a part of an event is about.
 use Rattle.std.proofs.Common.{ℕ, ◌+◌, ◌<◌, ◌≡◌, Bool, true, false, ◌&&◌, ◌==◌, if◌then◌else◌, find, Option, Some, None, Result, Ok, Err, refl, sym, ap, ◌∙◌, subst, eqb-true, arith}
 use Rattle.laws.proofs.Words.{cond_both, both_ways, and_parts, false≢true, false_from_ne_true}
-use Rattle.laws.specs.Words.{connected, agreed_inbound, agreed_outbound, acquired, released, awakened, idled, expired, has_id, is_acquirable, is_dialing, is_live, is_live_at, agreed_sharing, runs, Order, Ask, Forget, Promote, Release, Activate, Deactivate, verdict_of, answer_of, Verdict, message_of, Message, kind_of, CutFault, Item, same_address, CloseCause, Refused, Query, Fault, FaultKind, Protocol, Addr, Phase, Greeting, Negotiated, Cold, Kind, watched, Seen, with_entry, ending, vanishes, closing_entry, acquire, trim, release, awake, dial, dial_opens, dial_fails, fires_as, Effect, nothing_more, then_do, on_entry, closes, dialed, promoted_at, is_used_at, on_used, asks_peer, activates, carries_out, role_of, judged, decided, greets, Machine, Entry, entry_at, live_entry_at, own_info, peer_at, owing, paid, handled_in, handled, faulted, serves, begins, brings, Facts, is_used, on_connection}
+use Rattle.laws.specs.Words.{connected, agreed_inbound, agreed_outbound, acquired, released, awakened, idled, expired, has_id, is_acquirable, is_dialing, is_live, is_live_at, agreed_sharing, runs, Order, Ask, Forget, Promote, Release, Activate, Deactivate, verdict_of, answer_of, Verdict, message_of, Message, kind_of, CutFault, Item, same_address, CloseCause, Refused, Query, Fault, FaultKind, Protocol, Addr, Phase, Greeting, Negotiated, Kind, watched, Seen, with_entry, ending, vanishes, closing_entry, acquire, trim, release, awake, dial, dial_opens, dial_fails, fires_as, Effect, nothing_more, then_do, on_entry, closes, dialed, promoted_at, is_used_at, on_used, asks_peer, activates, carries_out, role_of, judged, decided, greets, Machine, Entry, entry_at, live_entry_at, own_info, peer_at, owing, paid, handled_in, handled, faulted, serves, begins, brings, Facts, is_used, on_connection}
 use Rattle.laws.specs.Words.verdict
 use Rattle.laws.specs.Words.kind
 use Rattle.laws.specs.Acts.{Act, fires_one, carries, ends_dial, stores, handles_item, ends_stream, is_closed, does}
-use Rattle.laws.specs.Untouched.{address_of, is_with, is_about, IsAsItWas}
+use Rattle.laws.specs.Untouched.{address_of, is_about, IsAsItWas}
 use Rattle.laws.specs.Steady.{IsOrdered}
 use Rattle.laws.proofs.Addresses.{same_address-true}
 use Rattle.laws.proofs.CarriedOut.{used_one}
@@ -269,9 +269,7 @@ release-becomes e m given =
     let n : Machine = with_entry new m in
     let o : Machine = cooled e m in
     let trims : Waits nobody o (trim e.facts.cid o).machine = trim-walk nobody (Waited nobody) (waits-kept nobody) e.facts.cid o in
-    subst (Becomes (Some new) e.facts.cid.0) (sym (release-machine e m))
-    (then-becomes (Some new) e.facts.cid.0 n (trim e.facts.cid o).machine given (turned-becomes e new m refl)
-    (waits_then nobody n o (trim e.facts.cid o).machine (changed-waits nobody (peer_at e.facts.addr n) (λ p. record p { temp = Cold }) n) trims))
+    grind (arith, release-machine e m, turned-becomes e new m refl, then-becomes, waits_then, changed-waits)
 
 orders-become : (order : Order) (m : Machine) (e : Entry) → Ordered (address_of order) m e → Becomes (Some (turned_by_order order e m)) e.facts.cid.0 (carries_out order m).machine
 orders-become (Ask addr n) m e o = used-becomes addr (asks_peer n) (owing 10 n m e) m e o (λ g stands. asks_peer-walk (alone g) (Waited (alone g)) (waits-kept (alone g)) n g m stands)
@@ -296,8 +294,7 @@ pub part-becomes : (act : Act) (m : Machine) → Finds act m → (cid : ℕ) (e 
 part-becomes (fires_one d) m found cid e own is = own-becomes (turned_by_kind d.kind e m) d.cid.0 cid (fires_as d.kind) m e own is (λ here. fires-becomes d.kind e m)
 part-becomes (carries order) m found cid e own is =
     let mine : e.facts.cid.0 ≡ cid = eqb-true e.facts.cid.0 cid (find_some (λ x. has_id cid x.facts) m.connections e is).passes in
-    subst (λ c. Becomes (Some (turned_by_order order e m)) c (carries_out order m).machine) mine
-    (orders-become order m e (record { ordered = found; is = subst (λ c. entry_at c m ≡ Some e) (sym mine) is; here = subst (λ o. is_with (address_of order) o ≡ true) is own }))
+    grind (arith, orders-become)
 part-becomes (ends_dial own_id opened) m found cid e own is = own-becomes (turned (ends_dial own_id opened) e m) own_id.0 cid (dialed opened) m e own is (λ here. dialed-becomes opened e m here)
 part-becomes (stores entry undecoded) m found cid e own is = grind (arith, turned-becomes)
 part-becomes (handles_item own_id item) m found cid e own is =
