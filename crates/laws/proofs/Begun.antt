@@ -1,7 +1,7 @@
 -- On the connection that a part is about a wait begins, goes on and ends exactly where it is to.
 use Rattle.std.proofs.Common.{ℕ, ◌+◌, ◌≡◌, Bool, true, false, not, ◌&&◌, ◌||◌, ◌==◌, if◌then◌else◌, Option, Some, None, Result, Ok, Err, refl, sym, ap, ◌∙◌, subst, eq-eqb, eqb-true, [], arith}
 use Rattle.laws.proofs.Words.{false≢true, and_right}
-use Rattle.laws.specs.Words.{agreed_inbound, agreed_outbound, awakened, connected, expired, released, has_id, is_dialing_phase, is_for_remote, is_live, is_negotiated, some_runs, with_responder, agreed_sharing, Order, verdict_of, Verdict, Message, Item, FaultKind, Agreed, Off, ForRemote, Phase, Greeting, Negotiated, Deadline, Kind, watched, Seen, closing_entry, fires_as, fires, on_entry, role_of, Machine, Entry, entry_at, own_info, owing, paid}
+use Rattle.laws.specs.Words.{agreed_inbound, agreed_outbound, awakened, connected, expired, released, has_id, is_dialing_phase, is_for_remote, is_live, is_negotiated, some_runs, agreed_sharing, Order, verdict_of, Verdict, Message, Item, FaultKind, Agreed, Off, Phase, Greeting, Negotiated, Deadline, Kind, watched, Seen, closing_entry, fires_as, fires, on_entry, role_of, Machine, Entry, entry_at, own_info, owing, paid}
 use Rattle.laws.specs.Words.kind
 use Rattle.laws.specs.Acts.{Act, fires_one, carries, ends_dial, stores, handles_item, ends_stream, is_closed, does}
 use Rattle.laws.specs.Begun.{is_kind, is_reply_on, begun_where, ended_where, wait_fired, wait_ordered, wait_agreed, wait_asked, wait_handled, wait_after, WhereStays, WaitsBegin}
@@ -111,29 +111,8 @@ begun-same protocol e sort other = grind arith
 -- what has begun, and stops where it is done
 asked-waits : (done : Bool) (protocol : ℕ) (e : Entry) (m : Machine) → IsShaped e.facts → some_runs (awakened protocol e.facts).running ≡ true → (sort : Kind) →
     until_of sort (stopped done protocol (m.now + m.settings.idle) (begun protocol e)) ≡ wait_asked sort e (stopped done protocol (m.now + m.settings.idle) (begun protocol e)) m
-asked-waits done protocol e m h wakes sort = by_kind sort
-  where
-    g : Entry
-    g = begun protocol e
-
-    until : ℕ
-    until = m.now + m.settings.idle
-
-    -- one that goes on runs, and where it was the last one a grace begins
-    graced : (b : Bool) → until_unused (stopped b protocol until g).facts.grace ≡ (if some_runs (stopped b protocol until g).facts.running then None else Some until)
-    graced true = by_bool (some_runs (with_responder protocol false g.facts.running))
-        (λ b. until_unused (if b then g.facts.grace else ForRemote until) ≡ (if b then None else Some until))
-        (λ is. ap until_unused (begun-off protocol e h)) (λ is. refl)
-    graced false = ap until_unused (begun-off protocol e h) ∙ sym (ap (λ b. if b then None else Some until) (begun-runs protocol e wakes))
-
-    same : (x : Kind) → is_kind kind.Grace x ≡ false → (b : Bool) → until_of x (stopped b protocol until g) ≡ until_of x g
-    same x other false = refl
-    same kind.Grace other true = absurd (false≢true (sym other))
-    same x other true = refl
-
-    by_kind : (x : Kind) → until_of x (stopped done protocol until g) ≡ wait_asked x e (stopped done protocol until g) m
-    by_kind kind.Grace = graced done
-    by_kind other = same other refl done ∙ begun-same protocol e other refl
+asked-waits done protocol e m h wakes sort =
+    grind (arith, begun-off protocol e h, begun-runs protocol e wakes, begun-same protocol e)
 
 paid-waits : (protocol : ℕ) (e : Entry) (sort : Kind) → until_of sort (paid protocol e) ≡ ended_where (is_reply_on protocol sort) sort e
 paid-waits protocol e sort = grind (arith, paid-until)

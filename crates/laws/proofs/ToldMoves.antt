@@ -7,7 +7,7 @@ use Rattle.laws.specs.Words.note
 use Rattle.laws.specs.Sound.{HasGivenId, IsOrderly}
 use Rattle.laws.specs.Stages.{stage_of_phase, stage_of, stage_at, stage_ended, causes_by, IsLateCause, IsOneEnd}
 use Rattle.laws.specs.Telling.{GoesOn, IsTold}
-use Rattle.laws.specs.InActions.{End, Given, closes_in, ended_by, ends_in, dials_in, promoted_by_dial, dial_promotions_in, given_in, CountUp, HasAddress, AreAt, LeadTo, temp_of, temp_at, notes_in, noted, is_change, names_in, is_other_name, same_state}
+use Rattle.laws.specs.InActions.{End, closes_in, ended_by, ends_in, dials_in, promoted_by_dial, dial_promotions_in, given_in, CountUp, AreAt, LeadTo, temp_of, temp_at, notes_in, noted, is_change, names_in, is_other_name, same_state}
 use Rattle.laws.proofs.Addresses.{same_address-self, same_address-true}
 use Rattle.laws.proofs.Entries.{TurnsInto, one_has_id, has_own_id, turned-connections, gone-connections, with_new}
 use Rattle.laws.proofs.Failures.{changed-found}
@@ -189,32 +189,17 @@ came-goes_on m new effect cid h id same none named = by_bool (has_id cid new.fac
 -- it is admitted
 pub admits-told : (m : Machine) (new : Entry) (addr : Addr) → IsOrderly m → new.facts.cid.0 ≡ m.next_id → new.facts.addr ≡ addr →
     IsTold m (entry_comes (Admit (record { 0 = m.next_id }) addr ∷ []) new m)
-admits-told m new addr h id here = record {
-  closes = refl;
-  dials = refl;
-  given = (refl, refl);
-  addresses = (subst (HasAddress addr) (sym (new-found m new h id)) here, tt);
-  peers = λ a. refl;
-  connections = λ cid. came-goes_on m new (entry_comes (Admit (record { 0 = m.next_id }) addr ∷ []) new m) cid h id refl refl refl;
-}
+admits-told m new addr h id here =
+    let goes = λ (cid : ℕ). came-goes_on m new (entry_comes (Admit (record { 0 = m.next_id }) addr ∷ []) new m) cid h id refl refl refl in
+    grind (arith, goes, new-found m new h id, here)
 
 -- it is dialed, as a promotion
 pub dials-told : (m : Machine) (new : Entry) (addr : Addr) → IsOrderly m → new.facts.cid.0 ≡ m.next_id → new.facts.addr ≡ addr →
     IsTold m (as_move (promoted addr) m (entry_comes (Dial (record { 0 = m.next_id }) addr ∷ []) new m))
 dials-told m new addr h id here =
-    let more : nat_lt m.next_id (m.next_id + 1) ≡ true = grind arith in
-    let dial : Given = record { cid = m.next_id; addr = addr } in
-    record {
-      closes = refl;
-      dials = subst (λ b. dial ∷ [] ≡ (if b then dial ∷ [] else []) ++ []) (sym more) refl;
-      given = (refl, refl);
-      addresses = (subst (HasAddress addr) (sym (new-found m new h id)) here, tt);
-      peers = λ a. refl;
-      connections = λ cid.
-          let goes : GoesOn cid m (entry_comes (Dial (record { 0 = m.next_id }) addr ∷ []) new m) =
-          came-goes_on m new (entry_comes (Dial (record { 0 = m.next_id }) addr ∷ []) new m) cid h id refl refl refl in
-          record { names = goes.names; address = goes.address; forward = goes.forward; ends = tt };
-    }
+    let goes = λ (cid : ℕ). came-goes_on m new (entry_comes (Dial (record { 0 = m.next_id }) addr ∷ []) new m) cid h id refl refl refl in
+    let found = new-found m new h id in
+    grind (arith, goes, found, here)
 
 -- ---- a peer changes
 

@@ -1,7 +1,7 @@
 -- How long is waited, and what is left as it was, through each change of a connection.
-use Rattle.std.proofs.Common.{ℕ, ◌+◌, ◌<◌, ◌≤◌, ◌≡◌, ◌⊎◌, Bool, true, false, cond, not, ◌==◌, nat_lt, if◌then◌else◌, List, [], ◌∷◌, ◌++◌, filter, find, Option, Some, None, refl, sym, ap, ◌∙◌, subst, inl, arith, eqb-true}
+use Rattle.std.proofs.Common.{ℕ, ◌+◌, ◌<◌, ◌≤◌, ◌≡◌, ◌⊎◌, Bool, true, false, not, ◌==◌, nat_lt, if◌then◌else◌, List, [], ◌∷◌, ◌++◌, filter, Option, Some, None, refl, sym, ap, ◌∙◌, subst, inl, arith, eqb-true}
 use Rattle.laws.proofs.Words.{find-append}
-use Rattle.laws.specs.Words.{option_map, option_or, has_id, nothing_undecoded, Peer, Kind, with_entry, without_entry, Machine, Entry, Owed, entry_at, reply_on, owing, paid}
+use Rattle.laws.specs.Words.{option_map, has_id, nothing_undecoded, Peer, Kind, with_entry, without_entry, Machine, Entry, Owed, entry_at, reply_on, owing, paid}
 use Rattle.laws.specs.CarriedOut.{IsUnset}
 use Rattle.laws.specs.Untouched.{IsAsItWas, KeepsBytes}
 use Rattle.laws.specs.Waits.{until_paid, until_of, until_in, length_of, IsWait}
@@ -109,30 +109,11 @@ waits_come scope m new id right = grind (arith, unchanged, find-append, on_same)
 -- a reply comes to be owed
 pub owing-until : (p protocol asked : ℕ) (m : Machine) (e : Entry) →
     until_paid (reply_on p (owing protocol asked m e)) ≡ (if protocol == p then Some (m.now + m.settings.reply) else until_paid (reply_on p e))
-owing-until p protocol asked m e = ap until_paid found ∙ by_tests (protocol == p) refl (nat_lt p protocol) refl (nat_lt protocol p) refl was
-  where
-    new : Owed
-    new = record { protocol = protocol; until = m.now + m.settings.reply; asked = asked }
-
-    was : Option Owed
-    was = reply_on p e
-
-    found : reply_on p (owing protocol asked m e)
-        ≡ option_or (if nat_lt p protocol then was else None) (cond (protocol == p) (Some new) (if nat_lt protocol p then was else None))
-    found =
-        find-append (λ o. o.protocol == p) (filter (λ o. nat_lt o.protocol protocol) e.owed) (new ∷ filter (λ o. nat_lt protocol o.protocol) e.owed)
-        ∙ (ap (λ o. option_or o (cond (protocol == p) (Some new) (find (λ x. x.protocol == p) (filter (λ x. nat_lt protocol x.protocol) e.owed))))
-        (found-filter (λ o. o.protocol == p) (λ o. nat_lt o.protocol protocol) (nat_lt p protocol) (λ o is. ap (λ n. nat_lt n protocol) (eqb-true o.protocol p is)) e.owed)
-        ∙ ap (λ o. option_or (if nat_lt p protocol then was else None) (cond (protocol == p) (Some new) o))
-        (found-filter (λ o. o.protocol == p) (λ o. nat_lt protocol o.protocol) (nat_lt protocol p) (λ o is. ap (λ n. nat_lt protocol n) (eqb-true o.protocol p is)) e.owed))
-
-    by_tests : (b : Bool) → (protocol == p) ≡ b → (a : Bool) → nat_lt p protocol ≡ a → (c : Bool) → nat_lt protocol p ≡ c → (o : Option Owed) →
-        until_paid (option_or (if a then o else None) (cond b (Some new) (if c then o else None))) ≡ (if b then Some (m.now + m.settings.reply) else until_paid o)
-    by_tests true same true lower c upper o = grind arith
-    by_tests false other true lower true upper None = refl
-    by_tests false other true lower false upper None = refl
-    by_tests false other false lower false upper o = grind arith
-    by_tests b is a lower c upper o = refl
+owing-until p protocol asked m e =
+    let new : Owed = record { protocol = protocol; until = m.now + m.settings.reply; asked = asked } in
+    let before = found-filter (λ o. o.protocol == p) (λ o. nat_lt o.protocol protocol) (nat_lt p protocol) (λ o is. ap (λ n. nat_lt n protocol) (eqb-true o.protocol p is)) e.owed in
+    let behind = found-filter (λ o. o.protocol == p) (λ o. nat_lt protocol o.protocol) (nat_lt protocol p) (λ o is. ap (λ n. nat_lt protocol n) (eqb-true o.protocol p is)) e.owed in
+    grind (arith, find-append (λ o. o.protocol == p) (filter (λ o. nat_lt o.protocol protocol) e.owed) (new ∷ filter (λ o. nat_lt protocol o.protocol) e.owed), before, behind)
 
 pub owing-right : (p protocol asked : ℕ) (m : Machine) (e : Entry) →
     IsWait (m.now + m.settings.reply) (until_paid (reply_on p e)) (until_paid (reply_on p (owing protocol asked m e)))

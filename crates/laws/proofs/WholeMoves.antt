@@ -1,5 +1,5 @@
 -- The moves of connections in the whole machine: what each keeps, and by how much it may raise the counted ones.
-use Rattle.std.proofs.Common.{ℕ, ◌+◌, ◌%◌, ◌≤◌, ◌≡◌, Bool, true, false, ◌&&◌, ◌||◌, nat_le, ◌==◌, if◌then◌else◌, count_by, Option, Some, None, is_some, subst, refl, sym, ap, ◌∙◌, arith}
+use Rattle.std.proofs.Common.{ℕ, ◌+◌, ◌%◌, ◌≤◌, ◌≡◌, Bool, true, false, ◌||◌, nat_le, ◌==◌, if◌then◌else◌, count_by, Option, Some, None, is_some, subst, refl, sym, ap, ◌∙◌, arith}
 use Rattle.laws.proofs.Words.{cond_both, both_ways, and_from, false≢true}
 use Rattle.laws.specs.Words.{CloseCause, Overwritten, Agreed, Cid, Facts, Undecoded, Grace, Off, ForRemote, ForLocal, Phase, Dialing, Greeting, Negotiated, Peer, Warm, Version, settings_tests, failed_peer, connected, agreed_inbound, agreed_outbound, acquired, released, awakened, idled, agreed_sharing, is_pending, opening_phase, is_negotiated, is_negotiated_phase, is_dialing, is_dialing_phase, is_greeting, is_greeting_phase, live_phase, is_outbound, is_for_remote, some_runs, is_acquirable, is_live, Machine, Entry, live_entry_at, nothing_more, peer_at, peer_fails, peer_succeeds, reply_on, owing, paid, is_owed_on, with_entry, without_entry, is_missed, lost, lost_by, ending, vanishes, is_used, is_agreed_inbound, is_agreed_outbound, acquire, idle, grace_deadlines, Effect}
 use Rattle.laws.specs.AtMoves.{IsReady}
@@ -131,15 +131,11 @@ connects-keeps m e k h s dials =
     let until : ℕ = m.now + m.settings.handshake in
     let new : Entry = record e { facts = connected until e.facts } in
     let shape : IsShaped e.facts = stands-shaped m e k h s in
-    let none : counted_of new ≡ 0 = one_if-not_counted new.facts (counted-connected until e.facts (shape.dialing dials)) in
-    let later : phase_late_of m.now new ≡ 0 = phase-ahead m.now until e.facts.cid (ahead m.now m.settings.handshake (handshake-positive m.settings h.orderly.settings)) in
-    let live : is_live e.facts ≡ true = dialing-live e.facts.phase dials in
-    let turns : TurnsInto e new = record { same_id = refl; same_addr = refl; live = λ l. live } in
-    let pending : is_pending e.facts ≡ true = and_from (is_outbound e.facts) (opening_phase e.facts.phase) (shape.dialing dials) (dialing-opening e.facts.phase dials) in
-    let still : is_pending new.facts ≡ true = and_from (is_outbound e.facts) true (shape.dialing dials) refl in
-    alike-keeps 0 m e new k h s turns (record { local = refl; pending = still ∙ sym pending; live = sym live; asked = λ asked. asked })
-    (connected-shaped until e.facts shape dials) (alike-owing e new refl refl refl (stands-owing m e k h s)) (omega arith)
-    (late-fewer m.now e new (omega arith) (omega arith) (omega arith))
+    let none = one_if-not_counted new.facts (counted-connected until e.facts (shape.dialing dials)) in
+    let later = phase-ahead m.now until e.facts.cid (ahead m.now m.settings.handshake (handshake-positive m.settings h.orderly.settings)) in
+    let live = dialing-live e.facts.phase dials in
+    alike-keeps 0 m e new k h s (grind (arith, live)) (grind (arith, dials, live, shape.dialing dials, dialing-opening)) (connected-shaped until e.facts shape dials)
+    (alike-owing e new refl refl refl (stands-owing m e k h s)) (omega (arith, none)) (late-fewer m.now e new (omega (arith, later)) (omega arith) (omega arith))
 
 -- the handshake of a peer that connected is done
 pub agrees_inbound-keeps : (agreed : Agreed) (m : Machine) (e : Entry) (k : ℕ) → IsOrdered m → StandsAt m.connections k e →
@@ -148,17 +144,12 @@ agrees_inbound-keeps agreed m e k h s greets inbound =
     let until : ℕ = m.now + m.settings.idle in
     let new : Entry = record e { facts = agreed_inbound agreed until e.facts } in
     let shape : IsShaped e.facts = stands-shaped m e k h s in
-    let before : counted_of e ≡ 1 = one_if-counted e.facts (counted-greeting e.facts greets inbound) in
-    let after : counted_of new ≤ 1 = at_most_one new.facts in
-    let later : grace_late_of m.now new ≡ 0 = remote-ahead m.now until e.facts.cid (idle-ahead m h) in
-    let live : is_live e.facts ≡ true = greeting-live e.facts.phase greets in
-    let turns : TurnsInto e new = record { same_id = refl; same_addr = refl; live = λ l. live } in
-    let idle : is_pending e.facts ≡ false = ap (λ b. b && opening_phase e.facts.phase) inbound in
-    let still : is_pending new.facts ≡ false = ap (λ b. b && false) inbound in
-    alike-keeps 0 m e new k h s turns (record { local = refl; pending = still ∙ sym idle; live = sym live; asked = λ asked. asked })
-    (agreed_inbound-shaped agreed until e.facts shape greets inbound)
-    (nothing-owing new ((stands-owing m e k h s).used (shape.unused (greeting-unnegotiated e.facts.phase greets)).local)) (omega arith)
-    (late-fewer m.now e new (omega arith) (omega arith) (omega arith))
+    let counted = one_if-counted e.facts (counted-greeting e.facts greets inbound) in
+    let later = remote-ahead m.now until e.facts.cid (idle-ahead m h) in
+    let live = greeting-live e.facts.phase greets in
+    alike-keeps 0 m e new k h s (grind (arith, live)) (grind (arith, inbound, live)) (agreed_inbound-shaped agreed until e.facts shape greets inbound)
+    (nothing-owing new ((stands-owing m e k h s).used (shape.unused (greeting-unnegotiated e.facts.phase greets)).local)) (omega (arith, counted, at_most_one new.facts))
+    (late-fewer m.now e new (omega arith) (omega (arith, later)) (omega arith))
 
 -- a connection comes into use, with facts that are in shape and raise nothing
 record Uses (m : Machine) (e : Entry) (f : Facts) : Type 0 where
@@ -206,22 +197,8 @@ used-keeps f m e k h s u =
 -- this node takes a connection that stands into use
 pub acquire-keeps : (m : Machine) (e : Entry) (k : ℕ) → IsOrdered m → StandsAt m.connections k e → is_acquirable e.facts ≡ true →
     IsReady m.now (peer_at e.facts.addr m) → Keeps 0 m (acquire e m).machine
-acquire-keeps m e k h s may ready =
-    let shape : IsShaped e.facts = stands-shaped m e k h s in
-    let live : is_live e.facts ≡ true = negotiated-live e.facts.phase (can_acquire e.facts may).negotiated in
-    used-keeps (acquired e.facts) m e k h s (record {
-      cid = refl;
-      addr = refl;
-      was_live = live;
-      unused = (can_acquire e.facts may).idle;
-      live = live;
-      local = refl;
-      shaped = acquired-shaped e.facts shape may;
-      fewer = fewer-acquired e.facts;
-      phase = omega arith;
-      grace = omega arith;
-      ready = λ o is tie. subst (IsReady m.now) is ready;
-    })
+acquire-keeps m e k h s may ready = used-keeps (acquired e.facts) m e k h s
+    (grind (arith, can_acquire e.facts may, negotiated-live e.facts.phase, acquired-shaped e.facts (stands-shaped m e k h s) may, fewer-acquired e.facts, ready))
 
 pub greeting-opening : (p : Phase) → is_greeting_phase p ≡ true → opening_phase p ≡ true
 greeting-opening (Greeting until) h = refl
