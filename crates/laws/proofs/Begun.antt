@@ -1,10 +1,10 @@
 -- On the connection that a part is about a wait begins, goes on and ends exactly where it is to.
-use Rattle.std.proofs.Common.{ℕ, ◌+◌, ◌≡◌, Bool, true, false, not, ◌&&◌, ◌||◌, ◌==◌, if◌then◌else◌, Option, Some, None, Result, Ok, Err, refl, sym, ap, ◌∙◌, subst, eq-eqb, eqb-true, [], arith}
+use Rattle.std.proofs.Common.{ℕ, ◌+◌, ◌≡◌, Bool, true, false, not, ◌&&◌, ◌||◌, if◌then◌else◌, Option, Some, None, Result, Ok, Err, refl, sym, ap, ◌∙◌, subst, eq-eqb, eqb-true, [], arith}
 use Rattle.laws.proofs.Words.{false≢true, and_right}
 use Rattle.laws.specs.Words.{agreed_inbound, agreed_outbound, awakened, connected, expired, released, has_id, is_dialing_phase, is_for_remote, is_live, is_negotiated, some_runs, agreed_sharing, Order, verdict_of, Verdict, Message, Item, FaultKind, Agreed, Off, Phase, Greeting, Negotiated, Deadline, Kind, watched, Seen, closing_entry, fires_as, fires, on_entry, role_of, Machine, Entry, entry_at, own_info, owing, paid}
 use Rattle.laws.specs.Words.kind
 use Rattle.laws.specs.Acts.{Act, fires_one, carries, ends_dial, stores, handles_item, ends_stream, is_closed, does}
-use Rattle.laws.specs.Begun.{is_kind, is_reply_on, begun_where, ended_where, wait_fired, wait_ordered, wait_agreed, wait_asked, wait_handled, wait_after, WhereStays, WaitsBegin}
+use Rattle.laws.specs.Begun.{is_kind, is_reply_on, begun_where, ended_where, wait_fired, wait_ordered, wait_agreed, wait_asked, wait_handled, wait_after, WaitsBegin}
 use Rattle.laws.specs.Moments.{IsOverAfter}
 use Rattle.laws.specs.Parts.{IsNext}
 use Rattle.laws.specs.Untouched.{is_about, IsAsItWas}
@@ -17,7 +17,7 @@ use Rattle.laws.proofs.Turned.{turned_by_kind, turned_by_order, turned_by_verdic
 use Rattle.laws.proofs.Waits.{owing-until, paid-until}
 use Rattle.laws.proofs.Walk.{Finds, taken}
 use Rattle.laws.proofs.WholeMoves.{negotiated-live}
-use Rattle.laws.proofs.Cases.{by_bool, by_option}
+use Rattle.laws.proofs.Cases.{by_option}
 
 -- ---- a deadline
 
@@ -36,15 +36,9 @@ closed-waits e m none sort = grind arith
 
 fired-waits : (fired : Kind) (until : ℕ) (e f : Entry) (m : Machine) → IsShaped e.facts → IsOwing e → until_of fired e ≡ Some until → turned_by_kind fired e m ≡ Some f →
     (sort : Kind) → until_of sort f ≡ wait_fired fired sort e f m
-fired-waits kind.Grace until e f m shape owing_ waits is sort = by_bool e.facts.local
-    (λ b. Some (if b then record e { facts = expired e.facts } else closing_entry m e) ≡ Some f → until_of sort f ≡ wait_fired kind.Grace sort e f m)
-    (λ local same.
-    let it : record e { facts = expired e.facts } ≡ f = cc in
-    subst (λ x. until_of sort x ≡ wait_fired kind.Grace sort e x m) it
-    (expired-waits e m (negotiated-live e.facts.phase (graced-negotiated e until shape waits)) sort))
-    (λ unused same.
-    let it : closing_entry m e ≡ f = cc in
-    subst (λ x. until_of sort x ≡ wait_fired kind.Grace sort e x m) it (closed-waits e m (owing_.used unused) sort)) is
+fired-waits kind.Grace until e f m shape owing_ waits is sort =
+    let negotiated = negotiated-live e.facts.phase (graced-negotiated e until shape waits) in
+    grind (arith, expired-waits e m negotiated sort, closed-waits e m, owing_.used)
 fired-waits other until e f m shape owing_ waits is sort = absurd cc
 
 -- ---- what is asked
@@ -129,12 +123,7 @@ handled-waits : (p : Phase) (item : Item) (e f : Entry) (m : Machine) → e.fact
     until_of sort f ≡ wait_handled p item sort e f m
 handled-waits (Greeting until) item e f m at h is sort = grind (arith, greeting-unnegotiated, message-waits)
 handled-waits Negotiated item e f m at h is sort =
-    let seen : Result Seen FaultKind = watched item.id (agreed_sharing e.facts.agreed) item.body in
-    by_bool (item.side == 0)
-    (λ b. (if b then turned_by_request seen item.id e m else Some (paid item.id e)) ≡ Some f →
-    until_of sort f ≡ (if b then wait_asked sort e f m else ended_where (is_reply_on item.id sort) sort e))
-    (λ is same. requested-waits seen item e f m refl h same sort)
-    (λ is same. let it : paid item.id e ≡ f = cc in subst (λ x. until_of sort x ≡ ended_where (is_reply_on item.id sort) sort e) it (paid-waits item.id e sort)) is
+    grind (arith, requested-waits (watched item.id (agreed_sharing e.facts.agreed) item.body) item e f m refl h, paid-waits item.id e sort)
 handled-waits other item e f m at h is sort = let it : e ≡ f = cc in ap (until_of sort) (sym it)
 
 -- ---- each act
@@ -162,17 +151,7 @@ turned-waits (is_closed own_id) m next found cid e f own at is sort = let it : e
 turned-waits other m next found cid e f own at is sort = absurd (false≢true own)
 
 pub waits-begin : (act : Act) (m : Machine) → IsNext act m → Finds act m → WaitsBegin act m (does act m).machine
-waits-begin act m next found cid own = by_option (entry_at cid m)
-    (λ o. WhereStays (λ x y. (sort : Kind) → until_of sort y ≡ wait_after act sort x y m) o after)
-    (λ is. tt) (λ e is. by_after e is after (part-becomes act m found cid e own is))
-  where
-    after : Option Entry
-    after = entry_at cid (does act m).machine
-
-    by_after : (e : Entry) → entry_at cid m ≡ Some e → (o : Option Entry) → IsAsItWas (turned act e m) o →
-        WhereStays (λ x y. (sort : Kind) → until_of sort y ≡ wait_after act sort x y m) (Some e) o
-    by_after e is None becomes = tt
-    by_after e is (Some f) becomes = λ sort. turned-waits act m next found cid e f own is becomes sort
+waits-begin act m next found cid own = grind (arith, own, part-becomes act m found cid, turned-waits act m next found cid)
 
 -- ---- what has fired is over
 

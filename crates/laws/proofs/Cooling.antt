@@ -1,7 +1,7 @@
 -- A peer in use cools only by a release, a deactivation or the loss of its connection.
 use Rattle.std.proofs.Common.{ℕ, ◌+◌, ◌≡◌, ◌⊎◌, Bool, true, false, ◌||◌, ◌==◌, find, List, if◌then◌else◌, Option, Some, None, refl, sym, ap, ◌∙◌, subst, inl, inr, arith, eqb-true}
 use Rattle.laws.proofs.Words.{cond_both, and_parts, or_right, list_any_at}
-use Rattle.laws.specs.Words.{turns_at, is_established, is_acquirable, is_live_at, Facts, dial_fails, option_map, unwrap_or, choice_of, has_id, same_address, failed_peer, Addr, Peer, Temp, Cold, Warm, Hot, CloseCause, Overwritten, Pruned, Fault, Protocol, Refused, Query, HandshakeWait, ReplyWait, Order, Ask, Forget, Promote, Release, Activate, Deactivate, is_candidate, is_dialing, is_greeting_phase, is_greeting, is_live, runs, Phase, Greeting, Negotiated, Kind, Item, CutFault, Verdict, kind_of, verdict_of, answer_of, Seen, is_missed, candidates_in, ending, vanishes, with_entry, without_entry, grace_over, acquire, trim, release, awake, dial, dial_opens, fires_as, Effect, nothing_more, on_entry, closes, dialed, promoted_at, is_used_at, on_used, asks_peer, activates, deactivates as rests, carries_out, peer_fails, peer_changes, peer_becomes, peer_comes, peer_goes, peer_at, role_of, judged, greets, own_info, paid, owing, handled_in, handled, faulted, serves, begins, brings, talks, Machine, Entry, entry_at, live_entry_at}
+use Rattle.laws.specs.Words.{turns_at, is_established, is_acquirable, is_live_at, Facts, dial_fails, option_map, unwrap_or, choice_of, has_id, same_address, failed_peer, Addr, Peer, Temp, Cold, Warm, Hot, CloseCause, Overwritten, Pruned, Fault, Protocol, Refused, Query, HandshakeWait, ReplyWait, Order, Ask, Forget, Promote, Release, Activate, Deactivate, is_candidate, is_dialing, is_greeting_phase, is_greeting, is_live, runs, Phase, Greeting, Negotiated, Kind, Item, CutFault, Verdict, kind_of, verdict_of, answer_of, Seen, is_missed, candidates_in, ending, vanishes, with_entry, without_entry, grace_over, acquire, trim, release, awake, dial, dial_opens, fires_as, Effect, nothing_more, on_entry, closes, dialed, promoted_at, is_used_at, on_used, asks_peer, activates, deactivates as rests, carries_out, peer_changes, peer_becomes, peer_comes, peer_goes, peer_at, role_of, judged, greets, own_info, paid, owing, handled_in, handled, faulted, serves, begins, brings, talks, Machine, Entry, entry_at, live_entry_at}
 use Rattle.laws.specs.Words.verdict
 use Rattle.laws.specs.Words.kind
 use Rattle.peer_book.specs.Book.{peer_at as peer_in}
@@ -77,21 +77,10 @@ same-beside : (e : Entry) (m n : Machine) → n.peers ≡ m.peers → Beside e m
 same-beside e m n same b = inl (same-mild m n same b)
 
 vanishes-beside : (e : Entry) (m : Machine) → Beside e m (vanishes e m).machine
-vanishes-beside e m =
+vanishes-beside e m b =
     let n : Machine = without_entry e.facts.cid.0 m in
     let fails : Peer → Peer = failed_peer n.now n.settings.backoff in
-    cond_both (is_missed e.facts) (peer_fails e.facts.addr n) (nothing_more n) (λ effect. entry_at e.facts.cid.0 effect.machine ≡ None → Beside e m effect.machine)
-    (λ missed gone b. by_bool (same_address b e.facts.addr) (λ c. Stays (peer_at b m) (peer_at b (peer_fails e.facts.addr n).machine) ⊎ Lost e b (peer_fails e.facts.addr n).machine)
-    (λ is. let own : b ≡ e.facts.addr = same_address-true b e.facts.addr is in
-    inr (
-      own,
-      missed,
-      gone,
-      subst (λ x. OnPeer (peer_at x (peer_fails e.facts.addr n).machine) (λ q. q.temp ≡ Cold)) (sym own)
-          (changed-here e.facts.addr fails n (λ p. refl) (λ q. q.temp ≡ Cold) (λ p. refl)),
-    ))
-    (λ other. inl (subst (Stays (peer_at b m)) (sym (turns_at-elsewhere e.facts.addr fails n (λ p. refl) b other)) (stays_itself (peer_at b m)))))
-    (λ other gone. same-beside e m n refl) (vanishes-none e m)
+    grind (arith, vanishes-none e m, same_address-true b e.facts.addr, stays_itself (peer_at b m), turns_at-elsewhere e.facts.addr fails n (λ p. refl) b, changed-here e.facts.addr fails n (λ p. refl) (λ q. q.temp ≡ Cold) (λ p. refl))
 
 ending-beside : (cause : CloseCause) (e : Entry) (m : Machine) → Beside e m (ending cause e m).machine
 ending-beside Overwritten e m = same-beside e m (ending Overwritten e m).machine refl

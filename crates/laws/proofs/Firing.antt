@@ -1,7 +1,7 @@
 -- The deadlines that are due fire, and none is left.
-use Rattle.std.proofs.Common.{ℕ, zero, suc, ◌≤◌, ◌≡◌, true, false, List, [], ◌∷◌, ◌++◌, length, get_or, map, filter, flat_map, count_by, Some, None, All, Contains, refl, sym, ap, ◌∙◌, subst, ⊎_elim, arith, eq-eqb}
+use Rattle.std.proofs.Common.{ℕ, zero, suc, ◌≤◌, ◌≡◌, true, false, List, [], ◌∷◌, ◌++◌, length, map, filter, flat_map, count_by, Some, None, All, Contains, refl, sym, ap, ◌∙◌, subst, ⊎_elim, arith, eq-eqb}
 use Rattle.laws.proofs.Words.{cond_both, nil_from_length, All-nil, All-cons, All-append, All-map, All-filter, All-contains, All-contains_itself, filter_passes, Contains-append_cases, Contains-append_right, length-filter, get_or-le-sum_by, count_by-le-length}
-use Rattle.laws.specs.Words.{Grace, ForRemote, ForLocal, Phase, Greeting, Closing, Fault, HandshakeWait, ReplyWait, Deadline, Kind, Handshake, TimeWait, Reply2, Reply8, Reply10, deadline_before, is_live, live_phase, has_id, Machine, Entry, entry_at, deadlines, deadlines_of, phase_deadlines, grace_deadlines, reply_kind, reply_deadline, due, fires_as, fires, fires_some, fire_due, fire_all, timer, earlier, least, on_entry}
+use Rattle.laws.specs.Words.{Grace, ForRemote, ForLocal, Phase, Greeting, Closing, Fault, HandshakeWait, ReplyWait, Deadline, Kind, Handshake, TimeWait, Reply2, Reply8, Reply10, deadline_before, is_live, has_id, Machine, Entry, entry_at, deadlines, deadlines_of, phase_deadlines, grace_deadlines, reply_kind, reply_deadline, due, fires_as, fires, fires_some, fire_due, fire_all, timer, earlier, least, on_entry}
 use Rattle.net_base.specs.declared.timer.Kind.TheVariants.{Grace as GraceKind}
 use Rattle.laws.specs.Sound.{IsOrderly}
 use Rattle.laws.proofs.Lists.{StandsAt, stands_next, FoundIn, find_some, find_only}
@@ -107,17 +107,12 @@ reply_kind-cases P on_2 on_8 on_10 protocol = grind arith
 pub grace-among : (e : Entry) (d : Deadline) → Contains (deadlines_of e) d → d.kind ≡ GraceKind →
     Contains (grace_deadlines e.facts.cid e.facts.grace) d
 grace-among e d among = All-contains OfGrace (deadlines_of e) d (deadlines-by OfGrace e (λ until is same. absurd cc) (λ until is same. absurd cc)
-    (λ until is same. first (ForRemote until) until is (contains_first (timer e.facts.cid GraceKind until) []))
-    (λ until is same. first (ForLocal until) until is (contains_first (timer e.facts.cid GraceKind until) []))
-    (λ k owed inside. reply_kind-cases (λ kind. kind ≡ GraceKind → Contains (grace_deadlines e.facts.cid e.facts.grace) (reply_deadline e.facts.cid (get_or e.owed k owed)))
-    (λ same. absurd cc) (λ same. absurd cc) (λ same. absurd cc) (get_or e.owed k owed).protocol)) among
+    (λ until is same. grind (arith, is, contains_first (timer e.facts.cid GraceKind until) []))
+    (λ until is same. grind (arith, is, contains_first (timer e.facts.cid GraceKind until) []))
+    (λ k owed inside. grind (arith, reply_kind))) among
   where
     OfGrace : Deadline → Type 0
     OfGrace x = x.kind ≡ GraceKind → Contains (grace_deadlines e.facts.cid e.facts.grace) x
-
-    first : (g : Grace) (until : ℕ) → e.facts.grace ≡ g → Contains (grace_deadlines e.facts.cid g) (timer e.facts.cid GraceKind until) →
-        Contains (grace_deadlines e.facts.cid e.facts.grace) (timer e.facts.cid GraceKind until)
-    first g until is here = subst (λ x. Contains (grace_deadlines e.facts.cid x) (timer e.facts.cid GraceKind until)) (sym is) here
 
 -- a late one among some is counted
 late-counted : (now : ℕ) (ds : List Deadline) (d : Deadline) → Contains ds d → is_late now d ≡ true →
@@ -172,9 +167,8 @@ due_of m d h e =
           (eq-eqb owner.facts.cid.0 d.cid.0 (sym (ap (λ cid. cid.0) id)));
       -- only a connection that this side has closed has a time-wait
       waits = All-contains (λ x. x.kind ≡ TimeWait → is_live owner.facts ≡ false) (deadlines_of owner) d
-          (deadlines-by (λ x. x.kind ≡ TimeWait → is_live owner.facts ≡ false) owner (λ until is same. absurd cc) (λ until is same. ap live_phase is)
-          (λ until is same. absurd cc) (λ until is same. absurd cc) (λ k x inside. reply_kind-cases (λ kind. kind ≡ TimeWait → is_live owner.facts ≡ false)
-          (λ same. absurd cc) (λ same. absurd cc) (λ same. absurd cc) (get_or owner.owed k x).protocol)) has.among;
+          (deadlines-by (λ x. x.kind ≡ TimeWait → is_live owner.facts ≡ false) owner (λ until is. grind arith) (λ until is. grind arith)
+          (λ until is. grind arith) (λ until is. grind arith) (λ k x inside. grind (arith, reply_kind))) has.among;
     }
 
 -- The deadline that fires next leaves fewer that are late.

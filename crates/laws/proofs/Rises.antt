@@ -1,7 +1,7 @@
 -- Who comes up in a part of a step: one is used or on its way to it, is hot or asked to become so, or is known.
-use Rattle.std.proofs.Common.{ℕ, ◌≡◌, Bool, true, false, cond, ◌||◌, if◌then◌else◌, List, [], ◌∷◌, ◌++◌, find, Option, Some, None, is_some, refl, sym, ap, ◌∙◌, subst, arith}
+use Rattle.std.proofs.Common.{ℕ, ◌≡◌, Bool, true, false, cond, ◌||◌, List, [], ◌∷◌, ◌++◌, find, Option, Some, None, is_some, refl, sym, ap, ◌∙◌, subst, arith}
 use Rattle.laws.proofs.Words.{both_ways, false≢true, or_left, or_right, list_any-append}
-use Rattle.laws.specs.Words.{option_map, list_any, same_address, Addr, Peer, is_live, is_live_at, without_peer, new_peer, entered, Machine, Entry, live_entry_at, Effect, Happened, then_do, as_move, peer_at, peer_changes, with_entry, without_entry}
+use Rattle.laws.specs.Words.{option_map, list_any, same_address, Addr, Peer, is_live_at, without_peer, new_peer, entered, Machine, Entry, live_entry_at, Effect, Happened, then_do, as_move, peer_at, peer_changes, with_entry, without_entry}
 use Rattle.peer_book.specs.Book.{peer_at as peer_in, with_new as with_new_in}
 use Rattle.laws.specs.AtMoves.{is_up_connection, is_up, is_hot_peer, is_asked_connection, is_hot_or_asked, is_known}
 use Rattle.laws.specs.Parts.{RisesBy}
@@ -85,18 +85,8 @@ pub record IsNoHigher (old new : Entry) : Type 0 where
 
 pub turned-down : (q : Option Entry → Bool) → q None ≡ false → (m : Machine) (e new : Entry) (k : ℕ) → IsOrderly m → StandsAt m.connections k e → TurnsInto e new →
     (q (Some new) ≡ true → q (Some e) ≡ true) → StaysDown (of_connection q) m (with_entry new m)
-turned-down q none m e new k h s t lower addr = by_bool (is_live e.facts)
-    (λ b. q (live_entry_at addr (with_entry new m)) ≡ true → q (live_entry_at addr m) ≡ true)
-    (λ live is. by_address live (same_address addr e.facts.addr) refl is)
-    (λ dead is. ap q (sym (turned_dead m e new k h s t dead addr)) ∙ is)
-  where
-    by_new : (b : Bool) → is_live e.facts ≡ true → q (if b then Some new else None) ≡ true → q (live_entry_at e.facts.addr m) ≡ true
-    by_new true live is = subst (λ o. q o ≡ true) (sym (live_here m e k h s live)) (lower is)
-    by_new false live is = absurd (false≢true (sym none ∙ is))
-
-    by_address : is_live e.facts ≡ true → (b : Bool) → same_address addr e.facts.addr ≡ b → q (live_entry_at addr (with_entry new m)) ≡ true → q (live_entry_at addr m) ≡ true
-    by_address live true same is = grind (arith, same_address-true addr e.facts.addr same, turned_here m e new k h s t live, by_new)
-    by_address live false other is = ap q (sym (turned_elsewhere m e new k h s t addr other)) ∙ is
+turned-down q none m e new k h s t lower addr =
+    grind (arith, none, lower, turned_dead m e new k h s t, turned_elsewhere m e new k h s t, turned_here m e new k h s t, live_here m e k h s, same_address-true addr e.facts.addr)
 
 -- a connection turns
 pub turned-connected : (m : Machine) (e new : Entry) (k : ℕ) → IsOrderly m → StandsAt m.connections k e → TurnsInto e new → IsNoHigher e new →
@@ -105,16 +95,8 @@ turned-connected m e new k h s t lower = grind (arith, turned-down is_up_connect
 
 gone-down : (q : Option Entry → Bool) → q None ≡ false → (m : Machine) (e : Entry) (k : ℕ) → IsOrderly m → StandsAt m.connections k e →
     StaysDown (of_connection q) m (without_entry e.facts.cid.0 m)
-gone-down q none m e k h s addr = by_bool (is_live e.facts) (λ b. q (live_entry_at addr gone) ≡ true → q (live_entry_at addr m) ≡ true)
-    (λ live is. by_address live (same_address addr e.facts.addr) refl is)
-    (λ dead is. ap q (sym (gone_dead m e k h s dead addr)) ∙ is)
-  where
-    gone : Machine
-    gone = without_entry e.facts.cid.0 m
-
-    by_address : is_live e.facts ≡ true → (b : Bool) → same_address addr e.facts.addr ≡ b → q (live_entry_at addr gone) ≡ true → q (live_entry_at addr m) ≡ true
-    by_address live true same is = grind (arith, same_address-true addr e.facts.addr same, gone_here m e k h s live, gone)
-    by_address live false other is = ap q (sym (gone_elsewhere m e k h s addr other)) ∙ is
+gone-down q none m e k h s addr =
+    grind (arith, none, gone_dead m e k h s, gone_elsewhere m e k h s, gone_here m e k h s, live_here m e k h s, same_address-true addr e.facts.addr)
 
 -- a connection goes
 pub gone-connected : (m : Machine) (e : Entry) (k : ℕ) → IsOrderly m → StandsAt m.connections k e → NoneConnected m (without_entry e.facts.cid.0 m)

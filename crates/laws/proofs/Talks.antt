@@ -1,6 +1,6 @@
 -- A connection whose handshake is done: whatever comes in, the connections stay in order and within the limit.
-use Rattle.std.proofs.Common.{ℕ, ◌+◌, [], ◌∷◌, is_some, ◌≤◌, ◌≡◌, Bool, true, false, ◌||◌, ◌==◌, if◌then◌else◌, List, find, set, Option, Some, None, Result, Ok, Err, refl, sym, ap, ◌∙◌, subst, arith, eqb-true}
-use Rattle.laws.proofs.Words.{cond_both, both_ways, false≢true, or_right}
+use Rattle.std.proofs.Common.{ℕ, ◌+◌, [], ◌∷◌, is_some, ◌≤◌, ◌≡◌, Bool, true, false, ◌||◌, ◌==◌, if◌then◌else◌, List, find, Option, Some, None, Result, Ok, Err, refl, sym, ap, ◌∙◌, subst, arith, eqb-true}
+use Rattle.laws.proofs.Words.{cond_both, false≢true, or_right}
 use Rattle.laws.specs.Words.{same_address, Fault, FaultKind, Protocol, UnknownId, Addr, Facts, Responders, Peer, Hot, awakened, idled, effective_of, has_responder, is_live, agreed_sharing, has_id, is_negotiated, runs, some_runs, Item, watched, seen_by_number, chain_sync_seen, block_fetch_seen, tx_submission_seen, keep_alive_seen, peer_sharing_seen, Reply, Seen, item_number_of, alive_of, share_of, Share, Machine, Entry, Owed, counted_in, entry_at, live_entry_at, Effect, shared, nothing_more, then_do, on_entry, on_connection, peer_at, peer_becomes, peer_comes, with_entry, entry_turns, ending, trim, awake, idle, replies, stops_if, serves, begins, takes_requests, shares_address, taken_of, takes_addresses, brings, talks, reply_on, without_reply, paid, Cid}
 use Rattle.laws.specs.Words.reply
 use Rattle.laws.specs.Words.share
@@ -11,7 +11,7 @@ use Rattle.laws.proofs.KnownWanted.{takes-within}
 use Rattle.laws.proofs.Lawful.{Accounts, IsQuiet, quiet-lawful, quiet-obeys, tells-quiet, comes-providing, shared-accounts, turns-obeys, IsAllowed, Within, allowed_within, as_move-obeys, stands-found}
 use Rattle.laws.proofs.Keeping.{Keeps, keeps_nothing, moves_then, moves-keeps, keeps-moves, changes-moves, peer_comes-keeps}
 use Rattle.laws.proofs.Lists.{StandsAt, stands-set, find_some}
-use Rattle.laws.specs.Steady.{AreTied, TiedBy, IsOrdered}
+use Rattle.laws.specs.Steady.{IsOrdered}
 use Rattle.laws.proofs.Addresses.{same_address-true}
 use Rattle.laws.proofs.Owing.{paid-some}
 use Rattle.laws.proofs.Rises.{is_asked, is_hot, NoneConnected, rises_nowhere, same-connected, connected_then, IsNoHigher, turned-connected, changed-known}
@@ -91,17 +91,13 @@ awake-begun protocol m e k t serves known =
     let turns : TurnsInto e new = record { same_id = refl; same_addr = refl; live = λ l. l } in
     let runs : some_runs new.facts.running ≡ true = woken-runs protocol e.facts known in
     let raised : Keeps 1 m n = awakes-keeps protocol m e k t.ordered t.stands t.negotiated serves runs in
-    let list : n.connections ≡ set m.connections k new = turned-connections m e new k t.ordered.orderly t.stands turns in
-    let here : StandsAt n.connections k new = subst (λ es. StandsAt es k new) (sym list) (stands-set m.connections k new e t.stands) in
+    let here : StandsAt n.connections k new = subst (λ es. StandsAt es k new) (sym (turned-connections m e new k t.ordered.orderly t.stands turns)) (stands-set m.connections k new e t.stands) in
     let moved : HasMoved e.facts.cid n = record { entry = new; place = k; stands = here; same = refl; counted = counted-running new.facts t.negotiated runs } in
-    let trimmed : Trimmed IsLawful n (trim e.facts.cid n) =
-    trim-trims e.facts.cid n raised.ordered (omega (arith, raised.counted, t.within)) (λ over. moved) in
     record {
       trimmed = raised_then_trimmed IsLawful m (entry_turns e new m) (trim e.facts.cid) raised
-          (turns-obeys IsLawful m e new k t.ordered.orderly t.stands turns (record { up = λ up. up; asked = λ asked. asked }) (omega arith)) trimmed;
-      runs = λ x found.
-          let was : entry_at e.facts.cid.0 n ≡ Some x = trim-found e.facts.cid e.facts.cid.0 x n found in
-          ap (λ y. some_runs y.facts.running) (found_is n new x k raised.ordered here was) ∙ runs;
+          (turns-obeys IsLawful m e new k t.ordered.orderly t.stands turns (grind arith) (omega arith))
+          (trim-trims e.facts.cid n raised.ordered (omega (arith, raised.counted, t.within)) (λ over. moved));
+      runs = λ x found. grind (arith, runs, found_is n new x k raised.ordered here (trim-found e.facts.cid e.facts.cid.0 x n found));
     }
 
 begins-begun : (protocol : ℕ) (m : Machine) (e : Entry) (k : ℕ) → Talking m e k → takes_requests e ≡ true → has_responder protocol ≡ true →
@@ -186,11 +182,7 @@ hot-keeps m e k h s live asked =
     moves-keeps 0 m (peer_becomes Hot e.facts.addr n).machine
     (moves_then 0 0 m n (peer_becomes Hot e.facts.addr n).machine (keeps-moves 0 m n pays_it) (changes-moves e.facts.addr hot n (λ p. refl) (λ p ordinary. ordinary) pays_it.ordered))
     (changed-ties e.facts.addr hot m n (λ p. refl) refl refl (turned_elsewhere m e new k h.orderly s turns)
-    (λ none alone. absurd (both_ways (is_some (reply_on 2 e)) (subst (λ o. TiedBy m.now None o) was alone).not_asked asked))
-    (λ p found tie. subst (λ o. TiedBy m.now (Some (hot p)) o) (sym here) (is_hot p (subst (λ o. TiedBy m.now (Some p) o) was tie))))
-  where
-    is_hot : (p : Peer) → AreTied m.now p e → AreTied m.now (record p { temp = Hot }) (paid 2 e)
-    is_hot p tie = grind (arith, paid-none e.owed)
+    (λ none alone. grind (arith, was, alone, asked)) (λ p found tie. grind (arith, here, was, tie, asked, paid-none e.owed)))
 
 paid-lower : (protocol : ℕ) (e : Entry) → IsNoHigher e (paid protocol e)
 paid-lower protocol e = record { up = λ up. up; asked = paid-some (λ o. o.protocol == 2) protocol e.owed }

@@ -1,6 +1,6 @@
 -- What becomes of the connection that a part of an event is about.
 use Rattle.std.proofs.Common.{ℕ, ◌+◌, ◌<◌, ◌≡◌, Bool, true, false, ◌&&◌, ◌==◌, if◌then◌else◌, find, Option, Some, None, Result, Ok, Err, refl, sym, ap, ◌∙◌, subst, eqb-true, arith}
-use Rattle.laws.proofs.Words.{cond_both, both_ways, and_parts, false≢true, false_from_ne_true}
+use Rattle.laws.proofs.Words.{cond_both, and_parts, false≢true}
 use Rattle.laws.specs.Words.{connected, agreed_inbound, agreed_outbound, acquired, released, awakened, idled, expired, has_id, is_acquirable, is_dialing, is_live, is_live_at, agreed_sharing, runs, Order, Ask, Forget, Promote, Release, Activate, Deactivate, verdict_of, answer_of, Verdict, message_of, Message, kind_of, CutFault, Item, same_address, CloseCause, Refused, Query, Fault, FaultKind, Protocol, Addr, Phase, Greeting, Negotiated, Kind, watched, Seen, with_entry, ending, vanishes, closing_entry, acquire, trim, release, awake, dial, dial_opens, dial_fails, fires_as, Effect, nothing_more, then_do, on_entry, closes, dialed, promoted_at, is_used_at, on_used, asks_peer, activates, carries_out, role_of, judged, decided, greets, Machine, Entry, entry_at, live_entry_at, own_info, peer_at, owing, paid, handled_in, handled, faulted, serves, begins, brings, Facts, is_used, on_connection}
 use Rattle.laws.specs.Words.verdict
 use Rattle.laws.specs.Words.kind
@@ -212,14 +212,8 @@ given_id m e h is = grind (arith, find_some (λ x. has_id e.facts.cid.0 x.facts)
 other-becomes : (test : Entry → Bool) (m n : Machine) (e g : Entry) → IsOrdered m → entry_at e.facts.cid.0 m ≡ Some e → entry_at g.facts.cid.0 m ≡ Some g → test e ≡ false → test g ≡ true →
     Waits (alone g) m n → Becomes (Some e) e.facts.cid.0 n
 other-becomes test m n e g h is at fails passes w =
-    was_then (Some e) (entry_at e.facts.cid.0 m) (entry_at e.facts.cid.0 n) (stands-becomes e m is)
-    ((w.each e.facts.cid.0).others (false_from_ne_true (g.facts.cid.0 == e.facts.cid.0) apart) (given_id m e h is))
-  where
-    apart : (g.facts.cid.0 == e.facts.cid.0) ≡ true → ⊥
-    apart same =
-        let one : Some g ≡ Some e = sym at ∙ (ap (λ c. entry_at c m) (eqb-true g.facts.cid.0 e.facts.cid.0 same) ∙ is) in
-        let it : g ≡ e = cc in
-        both_ways (test e) fails (ap test (sym it) ∙ passes)
+    let apart : (g.facts.cid.0 == e.facts.cid.0) ≡ false = grind (arith, is, at, fails, passes) in
+    was_then (Some e) (entry_at e.facts.cid.0 m) (entry_at e.facts.cid.0 n) (stands-becomes e m is) ((w.each e.facts.cid.0).others apart (given_id m e h is))
 
 -- the one in use is the one that an order finds
 used-found : (addr : Addr) (m : Machine) (e : Entry) → Ordered addr m e → e.facts.local ≡ true → find (is_used_at addr) m.connections ≡ Some e

@@ -1,6 +1,6 @@
 -- The moves of connections in the whole machine: what each keeps, and by how much it may raise the counted ones.
 use Rattle.std.proofs.Common.{ℕ, ◌+◌, ◌%◌, ◌≤◌, ◌≡◌, Bool, true, false, ◌||◌, nat_le, ◌==◌, if◌then◌else◌, count_by, Option, Some, None, is_some, subst, refl, sym, ap, ◌∙◌, arith}
-use Rattle.laws.proofs.Words.{cond_both, both_ways, and_from, false≢true}
+use Rattle.laws.proofs.Words.{cond_both, and_from, false≢true}
 use Rattle.laws.specs.Words.{CloseCause, Overwritten, Agreed, Cid, Facts, Undecoded, Grace, Off, ForRemote, ForLocal, Phase, Dialing, Greeting, Negotiated, Peer, Warm, Version, settings_tests, failed_peer, connected, agreed_inbound, agreed_outbound, acquired, released, awakened, idled, agreed_sharing, is_pending, opening_phase, is_negotiated, is_negotiated_phase, is_dialing, is_dialing_phase, is_greeting, is_greeting_phase, live_phase, is_outbound, is_for_remote, some_runs, is_acquirable, is_live, Machine, Entry, live_entry_at, nothing_more, peer_at, peer_fails, peer_succeeds, reply_on, owing, paid, is_owed_on, with_entry, without_entry, is_missed, lost, lost_by, ending, vanishes, is_used, is_agreed_inbound, is_agreed_outbound, acquire, idle, grace_deadlines, Effect}
 use Rattle.laws.specs.AtMoves.{IsReady}
 use Rattle.laws.specs.Steady.{IsShaped, IsUnused, AreTied, TiedBy, IsTied, IsOwing, IsOrdered}
@@ -212,9 +212,8 @@ agrees_outbound-keeps agreed m e k h s greets outbound =
     let f : Facts = agreed_outbound agreed until e.facts in
     let shape : IsShaped e.facts = stands-shaped m e k h s in
     let unused : IsUnused e.facts = shape.unused (greeting-unnegotiated e.facts.phase greets) in
-    let none : one_if_counted f ≡ 0 = one_if-not_counted f (counted-agreed_outbound agreed until e.facts outbound unused.running) in
-    let later : grace_late_of m.now (record e { facts = f }) ≤ 0 =
-    grace-fewer m.now e.facts.cid agreed.initiator_only Off (ForRemote until) (remote-ahead m.now until e.facts.cid (idle-ahead m h)) in
+    let none = one_if-not_counted f (counted-agreed_outbound agreed until e.facts outbound unused.running) in
+    let later = grace-fewer m.now e.facts.cid agreed.initiator_only Off (ForRemote until) (remote-ahead m.now until e.facts.cid (idle-ahead m h)) in
     let live : is_live e.facts ≡ true = greeting-live e.facts.phase greets in
     let pending : is_pending e.facts ≡ true = and_from (is_outbound e.facts) (opening_phase e.facts.phase) outbound (greeting-opening e.facts.phase greets) in
     used-keeps f m e k h s (record {
@@ -225,15 +224,11 @@ agrees_outbound-keeps agreed m e k h s greets outbound =
       live = refl;
       local = refl;
       shaped = agreed_outbound-shaped agreed until e.facts shape greets outbound;
-      fewer = omega arith;
+      fewer = omega (arith, none);
       phase = omega arith;
-      grace = omega arith;
-      ready = λ o is tie. on_its_way pending o tie;
+      grace = omega (arith, later);
+      ready = λ o is tie. grind (arith, tie, pending);
     })
-  where
-    on_its_way : is_pending e.facts ≡ true → (o : Option Peer) → TiedBy m.now o (Some e) → IsReady m.now o
-    on_its_way pending None tie = absurd (both_ways (is_pending e.facts) tie.not_dialed pending)
-    on_its_way pending (Some p) tie = tie.on_its_way pending
 
 -- a responder starts: one connection more may be counted
 pub awakes-keeps : (protocol : ℕ) (m : Machine) (e : Entry) (k : ℕ) → IsOrdered m → StandsAt m.connections k e →
@@ -253,13 +248,11 @@ idles-keeps protocol m e k h s runs =
     let until : ℕ = m.now + m.settings.idle in
     let new : Entry = record e { facts = idled protocol until e.facts } in
     let shape : IsShaped e.facts = stands-shaped m e k h s in
-    let before : counted_of e ≡ 1 = one_if-counted e.facts (counted-running e.facts (running-negotiated e.facts shape runs) runs) in
-    let after : counted_of new ≤ 1 = at_most_one new.facts in
-    let grace : grace_late_of m.now new ≤ grace_late_of m.now e =
-    grace-fewer m.now e.facts.cid (some_runs new.facts.running) e.facts.grace (ForRemote until) (remote-ahead m.now until e.facts.cid (idle-ahead m h)) in
-    alike-keeps 0 m e new k h s (record { same_id = refl; same_addr = refl; live = λ l. l }) (record { local = refl; pending = refl; live = refl; asked = λ asked. asked })
-    (idled-shaped protocol until e.facts shape runs) (alike-owing e new refl refl refl (stands-owing m e k h s)) (omega arith)
-    (late-fewer m.now e new (omega arith) grace (omega arith))
+    let before = one_if-counted e.facts (counted-running e.facts (running-negotiated e.facts shape runs) runs) in
+    let grace = grace-fewer m.now e.facts.cid (some_runs new.facts.running) e.facts.grace (ForRemote until) (remote-ahead m.now until e.facts.cid (idle-ahead m h)) in
+    alike-keeps 0 m e new k h s (grind arith) (grind arith) (idled-shaped protocol until e.facts shape runs)
+    (alike-owing e new refl refl refl (stands-owing m e k h s)) (omega (arith, before, at_most_one new.facts))
+    (late-fewer m.now e new (omega arith) (omega (arith, grace)) (omega arith))
 
 -- this node gives a connection out of its use, where nothing is owed: one more may be counted
 pub releases-moves : (m : Machine) (e : Entry) (k : ℕ) → IsOrdered m → StandsAt m.connections k e → e.facts.local ≡ true → OwesNothing e →
@@ -267,14 +260,11 @@ pub releases-moves : (m : Machine) (e : Entry) (k : ℕ) → IsOrdered m → Sta
 releases-moves m e k h s local owes =
     let until : ℕ = m.now + m.settings.idle in
     let new : Entry = record e { facts = released until e.facts } in
-    let after : counted_of new ≤ 1 = at_most_one new.facts in
-    let grace : grace_late_of m.now new ≤ grace_late_of m.now e =
-    grace-fewer m.now e.facts.cid (some_runs e.facts.running || is_for_remote e.facts.grace) e.facts.grace (ForLocal until)
+    let grace = grace-fewer m.now e.facts.cid (some_runs e.facts.running || is_for_remote e.facts.grace) e.facts.grace (ForLocal until)
     (local-ahead m.now until e.facts.cid (idle-ahead m h)) in
-    turns-moves 1 m e new k h s (record { same_id = refl; same_addr = refl; live = λ l. l })
-    (released-shaped until e.facts (stands-shaped m e k h s) local)
-    (nothing-owing new (nothing_owed e (stands-owing m e k h s) owes)) (omega arith)
-    (late-fewer m.now e new (omega arith) grace (omega arith))
+    turns-moves 1 m e new k h s (grind arith) (released-shaped until e.facts (stands-shaped m e k h s) local)
+    (nothing-owing new (nothing_owed e (stands-owing m e k h s) owes)) (omega (arith, at_most_one new.facts))
+    (late-fewer m.now e new (omega arith) (omega (arith, grace)) (omega arith))
 
 -- a reply is paid
 pub pays-keeps : (protocol : ℕ) (m : Machine) (e : Entry) (k : ℕ) → IsOrdered m → StandsAt m.connections k e →
