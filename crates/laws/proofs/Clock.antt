@@ -1,7 +1,7 @@
 -- The moves of the clock: a reply is late, a grace is over, a handshake was not done in time, a time-wait is over.
-use Rattle.std.proofs.Common.{ℕ, zero, suc, ◌≡◌, ◌≤◌, arith, true, false, ◌&&◌, [], ◌∷◌, Some, All, Contains, refl, sym, ap, subst, leb-true}
-use Rattle.laws.proofs.Words.{cond_both, both_ways, false≢true, and_right, All-weaker, All-contains_itself}
-use Rattle.laws.specs.Words.{Close, Unused, Fault, HandshakeWait, ReplyWait, Facts, Deadline, Kind, Handshake, TimeWait, expired, is_live, live_phase, is_greeting, is_greeting_phase, is_negotiated, is_outbound, Machine, Entry, Owed, Effect, unused, gone, tells, then_do, as_move, peer_at, entry_turns, entry_goes, closing_entry, grace_over, wait_over, deadlines_of, reply_deadline, due, fires_as, fires, fires_some, fire_due}
+use Rattle.std.proofs.Common.{ℕ, zero, suc, ◌≡◌, ◌≤◌, arith, true, false, [], ◌∷◌, Some, All, Contains, refl, sym, ap, subst, leb-true}
+use Rattle.laws.proofs.Words.{cond_both, false≢true, All-weaker, All-contains_itself}
+use Rattle.laws.specs.Words.{Close, Unused, Fault, HandshakeWait, ReplyWait, Facts, Deadline, Kind, Handshake, TimeWait, expired, is_live, live_phase, is_greeting, is_greeting_phase, is_negotiated, Machine, Entry, Owed, Effect, unused, gone, tells, then_do, as_move, peer_at, entry_turns, entry_goes, closing_entry, grace_over, wait_over, deadlines_of, reply_deadline, due, fires_as, fires, fires_some, fire_due}
 use Rattle.net_base.specs.declared.timer.Kind.TheVariants.{Grace as GraceKind}
 use Rattle.laws.specs.AtMoves.{is_missed, failed_where, FailsWhere, IsPast, IsOver, IsLawful}
 use Rattle.laws.specs.Sound.{IsOrderly}
@@ -73,16 +73,14 @@ grace_over-obeys m e k h s past =
     let closes : Effect = then_do (tells (Close e.facts.cid Unused ∷ []) m) (entry_turns e (closing_entry m e)) in
     let closed : Effect = as_move (unused e.facts.cid.0) m closes in
     cond_both e.facts.local (entry_turns e (record e { facts = expired e.facts }) m) closed (Obeys IsLawful m)
-    (λ local. turns-obeys IsLawful m e (record e { facts = expired e.facts }) k h.orderly s
-    (record { same_id = refl; same_addr = refl; live = λ l. l }) (record { up = λ up. up; asked = λ asked. asked }) (omega arith))
+    (λ local. turns-obeys IsLawful m e (record e { facts = expired e.facts }) k h.orderly s (grind arith) (grind arith) (omega arith))
     (λ idle. as_move-obeys IsLawful (unused e.facts.cid.0) m closes refl
     (record {
       back_off = tt;
       targets = tt;
       cause = on_stands (λ x. IsOver m.now x.facts) m e k h.orderly s (over m.now e.facts (stands-shaped m e k h s) idle past);
     })
-    (accounts_turned m e (closing_entry m e) k closed h.orderly s (record { same_id = refl; same_addr = refl; live = λ l. absurd (false≢true l) })
-    (record { up = λ up. absurd (both_ways (is_outbound e.facts && false) (and_right (is_outbound e.facts) false refl) up); asked = λ asked. asked }) refl
+    (accounts_turned m e (closing_entry m e) k closed h.orderly s (grind arith) (grind arith) refl
     (grace_over-told m e k h.orderly s (negotiated-live e.facts.phase (past-negotiated m.now e.facts (stands-shaped m e k h s) past)))))
 
 live-negotiated : (f : Facts) → is_live f ≡ false → is_negotiated f ≡ false

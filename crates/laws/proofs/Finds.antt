@@ -1,5 +1,5 @@
 -- What a search finds once one element of a list has changed or gone, where at most one passes.
-use Rattle.std.proofs.Common.{ℕ, zero, suc, ◌≡◌, Bool, true, false, cond, List, [], ◌∷◌, find, set, remove, Some, None, All, refl, ap, ◌∙◌, arith, Option, filter, map, not, if◌then◌else◌, ◌==◌, sym, eqb-true}
+use Rattle.std.proofs.Common.{ℕ, zero, suc, ◌≡◌, Bool, true, false, List, [], ◌∷◌, find, set, remove, Some, None, All, refl, ap, ◌∙◌, arith, Option, filter, map, not, if◌then◌else◌, ◌==◌, eqb-true}
 use Rattle.laws.proofs.Lists.{StandsAt, stands_before, OnePasses, OnePasses-none_after, OnePasses-not_before, OnePasses-tail}
 use Rattle.laws.specs.Words.{option_map, has_id, Entry}
 use Rattle.laws.proofs.Cases.{by_bool}
@@ -63,16 +63,7 @@ replaced c new (e ∷ es) = grind (arith, replaced c new es)
 -- where all that pass one test pass another, or none does
 pub found-filter : {X : Type 0} (q r : X → Bool) (b : Bool) → ((x : X) → q x ≡ true → r x ≡ b) → (xs : List X) → find q (filter r xs) ≡ (if b then find q xs else None)
 found-filter {X} q r b each [] = either_way {X = X} None b
-found-filter {X} q r b each (x ∷ xs) = by_tests (q x) refl (r x) refl b (each x) (found-filter q r b each xs)
-  where
-    by_tests : (c : Bool) → q x ≡ c → (d : Bool) → r x ≡ d → (e : Bool) → (q x ≡ true → r x ≡ e) → find q (filter r xs) ≡ (if e then find q xs else None) →
-        find q (cond d (x ∷ filter r xs) (filter r xs)) ≡ (if e then cond c (Some x) (find q xs) else None)
-    by_tests true passes true keeps true same rest = ap (λ y. cond y (Some x) (find q (filter r xs))) passes
-    by_tests true passes true keeps false same rest = absurd (let never : true ≡ false = sym keeps ∙ same passes in cc)
-    by_tests true passes false keeps true same rest = absurd (let never : false ≡ true = sym keeps ∙ same passes in cc)
-    by_tests true passes false keeps false same rest = rest
-    by_tests false fails true keeps e same rest = ap (λ y. cond y (Some x) (find q (filter r xs))) fails ∙ rest
-    by_tests false fails false keeps e same rest = rest
+found-filter {X} q r b each (x ∷ xs) = grind (arith, each x, found-filter q r b each xs)
 
 -- one goes
 pub gone-found : (c cid : ℕ) (es : List Entry) → find (λ e. has_id c e.facts) (filter (λ e. not (has_id cid e.facts)) es)

@@ -1,6 +1,6 @@
 -- A connection that waits its time stays until that is over.
-use Rattle.std.proofs.Common.{ℕ, ◌≤◌, ◌≡◌, Bool, true, false, ◌&&◌, ◌||◌, ◌==◌, nat_lt, is_some, Option, Some, None, refl, sym, ap, ◌∙◌, subst, arith, eqb-true}
-use Rattle.laws.proofs.Words.{false≢true, or_left, or_right, and_from, not-true}
+use Rattle.std.proofs.Common.{ℕ, ◌≤◌, ◌≡◌, Bool, true, false, ◌&&◌, ◌||◌, ◌==◌, nat_lt, is_some, Option, Some, None, refl, sym, arith, eqb-true}
+use Rattle.laws.proofs.Words.{false≢true, or_left, or_right, and_from}
 use Rattle.laws.specs.Words.{Kind, Deadline, is_live, has_id, Effect, Machine, Entry, entry_at}
 use Rattle.laws.specs.Acts.{Act, fires_one, does}
 use Rattle.laws.specs.AtMoves.{is_ended_in}
@@ -11,11 +11,10 @@ use Rattle.laws.specs.Stages.{stage_of}
 use Rattle.laws.specs.Steady.{IsOrdered, IsShaped, IsOwing}
 use Rattle.laws.specs.Telling.{IsTold}
 use Rattle.laws.specs.Untouched.{is_about, may_close}
-use Rattle.laws.specs.Waits.{until_of, until_in, until_at}
+use Rattle.laws.specs.Waits.{until_of}
 use Rattle.laws.proofs.Lists.{All-stands, find_some}
 use Rattle.laws.proofs.OpenEnds.{uncaused, lasts-of}
 use Rattle.laws.proofs.Walk.{Finds}
-use Rattle.laws.proofs.Cases.{by_bool}
 
 -- one that waits its time is closed, and closing is behind all that is open
 waiting-stage : (o : Option Entry) (given : Bool) → is_waiting_entry o ≡ true → 4 ≤ stage_of o given
@@ -39,17 +38,13 @@ waits_alone sort e shaped owing closed other = grind arith
 
 -- no deadline but that of its time-wait is of it
 fires-waiting : (d : Deadline) (cid : ℕ) (m : Machine) → IsNext (fires_one d) m → IsOrdered m → (d.cid.0 == cid) ≡ true → is_waiting_at cid m ≡ true → is_time_wait d.kind ≡ true
-fires-waiting d cid m next h own waits = by_bool (is_time_wait d.kind) (λ b. is_time_wait d.kind ≡ b → b ≡ true) (λ is _. refl) (λ is other. absurd (by_entry (entry_at cid m) refl waits other)) refl
-  where
-    by_entry : (o : Option Entry) → entry_at cid m ≡ o → is_waiting_entry o ≡ true → is_time_wait d.kind ≡ false → ⊥
-    by_entry None is none other = false≢true none
-    by_entry (Some e) is closed other =
-        let at = find_some (λ x. has_id cid x.facts) m.connections e is in
-        let waited : until_of d.kind e ≡ Some d.at = sym (ap (until_in d.kind) is) ∙ subst (λ c. until_at d.kind c m ≡ Some d.at) (eqb-true d.cid.0 cid own) next.waited in
-        let none : until_of d.kind e ≡ None =
-        waits_alone d.kind e (All-stands (λ x. IsShaped x.facts) m.connections at.place e at.stands h.formed.shaped) (All-stands IsOwing m.connections at.place e at.stands h.formed.owing)
-        (not-true (is_live e.facts) closed) other in
-        let both : None ≡ Some d.at = sym none ∙ waited in absurd cc
+fires-waiting d cid m next h own waits =
+    let never : (e : Entry) → entry_at cid m ≡ Some e → is_live e.facts ≡ false → is_time_wait d.kind ≡ false → ⊥ =
+    λ e is closed other.
+    let at = find_some (λ x. has_id cid x.facts) m.connections e is in
+    let none = waits_alone d.kind e (All-stands (λ x. IsShaped x.facts) m.connections at.place e at.stands h.formed.shaped) (All-stands IsOwing m.connections at.place e at.stands h.formed.owing) closed other in
+    grind (arith, none, next.waited, is, eqb-true d.cid.0 cid own) in
+    grind (arith, waits, never)
 
 -- ---- each act
 

@@ -1,5 +1,5 @@
 -- What is said is said to who is open, and behind the close of a connection nothing.
-use Rattle.std.proofs.Common.{ℕ, ◌≤◌, ◌≡◌, arith, flat_map, if◌then◌else◌, Bool, true, false, ◌==◌, List, [], ◌∷◌, ◌++◌, Some, refl, sym, ap, ◌∙◌, subst, eq-eqb}
+use Rattle.std.proofs.Common.{ℕ, ◌≤◌, ◌≡◌, arith, flat_map, true, false, ◌==◌, List, [], ◌∷◌, ◌++◌, Some, refl, sym, ap, ◌∙◌, subst}
 use Rattle.laws.proofs.Words.{cond_both, both_ways, and_parts, false≢true, flat_map-append, filter-append}
 use Rattle.laws.specs.Words.{AllByRecursion, Action, Close, Send, Forget, Addr, Peer, CloseCause, Order, Promote, is_acquirable, is_live, is_live_at, same_address, Effect, nothing_more, then_do, entry_turns, entry_goes, with_entry, without_entry, ending, lost_by, acquire, dial, carries_out, promoted_at, peer_changes, Machine, Entry, entry_at, live_entry_at}
 use Rattle.laws.specs.Acts.{Act, carries, ends_dial, handles_item, does}
@@ -157,16 +157,7 @@ speaks-right other m next found = unsaid-speaks m (does other m) (sends-right ot
 -- whom this node ends is closed then
 late_ends : (n : Machine) (ends : List End) → ((cid : ℕ) → (flat_map (causes_by cid) ends ≡ [] → ⊥) → 4 ≤ stage_at cid n) → AllByRecursion (λ end. 4 ≤ stage_at end.cid n) ends
 late_ends n [] late = tt
-late_ends n (end ∷ ends) late =
-    (late end.cid (λ none. by_own (end.cid == end.cid) (eq-eqb end.cid end.cid refl) none), late_ends n ends (λ cid some. late cid (λ none. some (by_id cid (end.cid == cid) none))))
-  where
-    by_own : (b : Bool) → b ≡ true → (if b then end.cause ∷ [] else []) ++ flat_map (causes_by end.cid) ends ≡ [] → ⊥
-    by_own true own none = absurd cc
-    by_own false own none = absurd (false≢true own)
-
-    by_id : (cid : ℕ) (b : Bool) → (if b then end.cause ∷ [] else []) ++ flat_map (causes_by cid) ends ≡ [] → flat_map (causes_by cid) ends ≡ []
-    by_id cid true none = absurd cc
-    by_id cid false none = none
+late_ends n (end ∷ ends) late = grind (arith, late, late_ends n ends)
 
 closed-late : (causes : List CloseCause) (before after : ℕ) → IsOneEnd causes before after → (causes ≡ [] → ⊥) → 4 ≤ after
 closed-late causes before after one some = grind arith

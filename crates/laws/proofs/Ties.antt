@@ -118,11 +118,8 @@ pub gone-ties : (m : Machine) (e : Entry) (k : ℕ) → IsOrderly m → StandsAt
 gone-ties m e k h s unused ties = by_bool (is_live e.facts) (λ b. IsTied (without_entry e.facts.cid.0 m))
     (λ live.
     tied_but e.facts.addr m (without_entry e.facts.cid.0 m) refl (λ b other. refl) (gone_elsewhere m e k h s)
-    (subst (λ o. TiedBy m.now (peer_at e.facts.addr m) o) (sym (gone_here m e k h s live))
-    (by_option (peer_at e.facts.addr m) (λ o. e.facts.local ≡ false → TiedBy m.now o (Some e) → TiedBy m.now o None)
-    (λ is unused tie. tt) (λ p is unused tie. tie.established ∙ unused) (unused live) (subst (λ o. TiedBy m.now (peer_at e.facts.addr m) o) (live_here m e k h s live) (ties e.facts.addr)))) ties)
-    (λ dead.
-    λ b. subst (λ o. TiedBy m.now (peer_at b m) o) (sym (gone_dead m e k h s dead b)) (ties b))
+    (grind (arith, gone_here m e k h s live, live_here m e k h s live, unused live, ties e.facts.addr)) ties)
+    (λ dead b. grind (arith, gone_dead m e k h s dead b, ties b))
 
 -- A peer changes, from one record to another in which its connection may have changed too.
 pub changed-ties : (a : Addr) (change : Peer → Peer) (m n : Machine) → ((p : Peer) → (change p).addr ≡ p.addr) → n.now ≡ m.now → n.peers ≡ m.peers →
@@ -172,17 +169,11 @@ new-tied : (big : Bool) (addr : Addr) (now : ℕ) (o : Option Entry) → TiedBy 
 new-tied big addr now o tie = grind arith
 
 pub comes-ties : (big : Bool) (addr : Addr) (m : Machine) → IsTied m → IsTied (record m { peers = entered (new_peer big addr) m.peers })
-comes-ties big addr m ties = entered-cases new m.peers (λ ps. IsTied (record m { peers = ps })) ties
-    (λ none room. comes (none_there (peer_in addr m.peers) none))
-  where
-    new : Peer
-    new = new_peer big addr
-
-    comes : peer_in addr m.peers ≡ None → IsTied (record m { peers = with_new_in new m.peers })
-    comes none =
-        tied_but addr m (record m { peers = with_new_in new m.peers }) refl (λ b other. put_in-elsewhere new b m.peers other) (λ b other. refl)
-        (subst (λ o. TiedBy m.now o (live_entry_at addr m)) (sym (put_in-here new m.peers none))
-        (new-tied big addr m.now (live_entry_at addr m) (subst (λ o. TiedBy m.now o (live_entry_at addr m)) none (ties addr)))) ties
+comes-ties big addr m ties = entered-cases (new_peer big addr) m.peers (λ ps. IsTied (record m { peers = ps })) ties
+    (λ none room.
+    let unknown : peer_in addr m.peers ≡ None = none_there (peer_in addr m.peers) none in
+    tied_but addr m (record m { peers = with_new_in (new_peer big addr) m.peers }) refl (λ b other. put_in-elsewhere (new_peer big addr) b m.peers other) (λ b other. refl)
+    (grind (arith, put_in-here (new_peer big addr) m.peers unknown, new-tied big addr m.now (live_entry_at addr m), unknown, ties addr)) ties)
 
 pub taken-elsewhere : (addr b : Addr) (ps : List Peer) → same_address b addr ≡ false → peer_in b (without_peer addr ps) ≡ peer_in b ps
 taken-elsewhere addr b [] other = refl

@@ -1,7 +1,7 @@
 -- What each change of a connection or a peer tells.
-use Rattle.std.proofs.Common.{ℕ, ◌+◌, ◌≡◌, ◌≤◌, Bool, true, false, not, ◌==◌, nat_lt, nat_le, if◌then◌else◌, List, [], ◌∷◌, ◌++◌, find, get_or, set, remove, length, flat_map, Option, Some, None, is_some, refl, sym, ap, ◌∙◌, subst, arith, eqb-true, eq-eqb, ne_eqb}
-use Rattle.laws.proofs.Words.{cond_both, both_ways, All-weaker}
-use Rattle.laws.specs.Words.{option_map, name_of, name_place, same_name, has_id, same_address, Action, Admit, Dial, Close, State, CloseCause, PeerNote, StateName, ReservedOutbound, UnnegotiatedInbound, UnnegotiatedOutbound, Duplex, OutboundUni, OutboundDupTicking, OutboundDupExpired, Inbound, InboundIdle, OutboundIdle, Terminating, Terminated, Addr, Cid, Facts, Peer, Temp, Cold, new_peer, entered_by, most_peers, same_temp, Added, New, Present, Full, with_entry, without_entry, entry_turns, entry_comes, entry_goes, Effect, Happened, Move, promoted, as_move, Machine, Entry, entry_at, peer_at, note_of, turns_at, peer_changes, note_of_coming, peer_comes, peer_goes}
+use Rattle.std.proofs.Common.{ℕ, ◌+◌, ◌≡◌, ◌≤◌, Bool, true, false, not, ◌==◌, nat_lt, if◌then◌else◌, List, [], ◌∷◌, ◌++◌, find, get_or, remove, flat_map, Option, Some, None, is_some, refl, sym, ap, ◌∙◌, subst, arith, eqb-true, eq-eqb, ne_eqb}
+use Rattle.laws.proofs.Words.{both_ways, All-weaker}
+use Rattle.laws.specs.Words.{option_map, name_of, name_place, same_name, has_id, same_address, Action, Admit, Dial, Close, State, CloseCause, PeerNote, StateName, ReservedOutbound, UnnegotiatedInbound, UnnegotiatedOutbound, Duplex, OutboundUni, OutboundDupTicking, OutboundDupExpired, Inbound, InboundIdle, OutboundIdle, Terminating, Terminated, Addr, Cid, Facts, Peer, Temp, Cold, new_peer, entered_by, same_temp, Added, New, Present, Full, with_entry, without_entry, entry_turns, entry_comes, entry_goes, Effect, Happened, Move, promoted, as_move, Machine, Entry, entry_at, peer_at, note_of, turns_at, peer_changes, note_of_coming, peer_comes, peer_goes}
 use Rattle.net_base.specs.declared.action.Action.TheVariants.{Peer as TellPeer}
 use Rattle.laws.specs.Words.note
 use Rattle.laws.specs.Sound.{HasGivenId, IsOrderly}
@@ -68,27 +68,19 @@ plain-told m effect plain none next_id peers each = record {
 pub turned-told : (m : Machine) (e new : Entry) (k : ℕ) → IsOrderly m → StandsAt m.connections k e → TurnsInto e new →
     stage_of_phase e.facts.phase ≤ stage_of_phase new.facts.phase → IsTold m (entry_turns e new m)
 turned-told m e new k h s t forward =
+    let list = turned-connections m e new k h s t in
     plain-told m (entry_turns e new m) (grind arith) refl refl (λ addr. grind arith)
-    (λ cid. by_id cid (has_id cid e.facts) refl)
-  where
-    list : (with_entry new m).connections ≡ set m.connections k new
-    list = turned-connections m e new k h s t
-
-    by_id : (cid : ℕ) (b : Bool) → has_id cid e.facts ≡ b → GoesOn cid m (entry_turns e new m)
-    by_id cid true own =
-        let one : OnePasses (λ x. has_id cid x.facts) m.connections = one_has_id cid m.connections h.ids_rise in
-        let new_own : has_id cid new.facts ≡ true = ap (λ c. c.0 == cid) t.same_id ∙ own in
-        went_on cid m (entry_turns e new m) (Some e) (Some new) (find_only (λ x. has_id cid x.facts) e m.connections k one s own)
-        (ap (find (λ x. has_id cid x.facts)) list ∙ find-set_here (λ x. has_id cid x.facts) new e m.connections k one s own new_own) refl t.same_addr
-        (cond_both (same_name (name_of e.facts) (name_of new.facts)) [] (State e.facts.cid (name_of new.facts) ∷ [])
-        (λ actions. LeadTo is_other_name same_state (name_of e.facts) (names_in cid actions) (name_of new.facts)) (same_name-true (name_of e.facts) (name_of new.facts))
-        (one_name cid e.facts.cid (name_of e.facts) (name_of new.facts) own)) forward
-    by_id cid false other =
-        let new_other : has_id cid new.facts ≡ false = ap (λ c. c.0 == cid) t.same_id ∙ other in
-        went_untold cid m (entry_turns e new m)
-        (ap (find (λ x. has_id cid x.facts)) list ∙ find-set_other (λ x. has_id cid x.facts) new e m.connections k s other new_other) refl
-        (cond_both (same_name (name_of e.facts) (name_of new.facts)) [] (State e.facts.cid (name_of new.facts) ∷ []) (λ actions. names_in cid actions ≡ [])
-        (λ same. refl) (λ turns. no_name cid e.facts.cid (name_of new.facts) other)) (omega arith)
+    (λ cid.
+    by_bool (has_id cid e.facts) (λ b. GoesOn cid m (entry_turns e new m))
+    (λ own.
+    let one : OnePasses (λ x. has_id cid x.facts) m.connections = one_has_id cid m.connections h.ids_rise in
+    went_on cid m (entry_turns e new m) (Some e) (Some new) (find_only (λ x. has_id cid x.facts) e m.connections k one s own)
+    (ap (find (λ x. has_id cid x.facts)) list ∙ find-set_here (λ x. has_id cid x.facts) new e m.connections k one s own (ap (λ c. c.0 == cid) t.same_id ∙ own)) refl t.same_addr
+    (grind (arith, same_name-true (name_of e.facts) (name_of new.facts), one_name cid e.facts.cid (name_of e.facts) (name_of new.facts) own)) forward)
+    (λ other.
+    went_untold cid m (entry_turns e new m)
+    (ap (find (λ x. has_id cid x.facts)) list ∙ find-set_other (λ x. has_id cid x.facts) new e m.connections k s other (ap (λ c. c.0 == cid) t.same_id ∙ other)) refl
+    (grind (arith, no_name cid e.facts.cid (name_of new.facts) other)) (omega arith)))
 
 pub turned-stage : (m : Machine) (e new : Entry) (k : ℕ) → IsOrderly m → StandsAt m.connections k e → TurnsInto e new →
     stage_at e.facts.cid.0 (with_entry new m) ≡ stage_of_phase new.facts.phase
@@ -132,11 +124,12 @@ pub ended-told : (happened : Happened) (cid : Cid) (cause : CloseCause) (m : Mac
 ended-told happened cid cause m inner is_end no_dial h none early late may =
     let move : Move = record { happened = happened; before = m; after = inner.machine } in
     let end : End = record { cid = cid.0; cause = cause } in
-    let no_ends : ends_in inner.moves ≡ [] = ap ends_in none in
     let ends : ends_in (inner.moves ++ move ∷ []) ≡ end ∷ [] =
     ap (λ ms. ends_in (ms ++ move ∷ [])) none ∙ ap (λ l. l ++ []) is_end in
+    let one : (id : ℕ) → IsOneEnd (flat_map (causes_by id) (end ∷ [])) (stage_at id m) (stage_at id inner.machine) =
+    λ id. by_bool (cid.0 == id) (λ b. IsOneEnd ((if b then cause ∷ [] else []) ++ []) (stage_at id m) (stage_at id inner.machine)) (λ own. let is = eqb-true cid.0 id own in grind (arith, is, early, late, may)) (λ other. tt) in
     record {
-      closes = ap (λ l. end ∷ l) (h.closes ∙ no_ends) ∙ sym ends;
+      closes = ap (λ l. end ∷ l) (h.closes ∙ ap ends_in none) ∙ sym ends;
       dials = h.dials
           ∙ (ap dial_promotions_in none ∙ sym (ap (λ ms. dial_promotions_in (ms ++ move ∷ [])) none ∙ ap (λ l. l ++ []) no_dial));
       given = h.given;
@@ -146,14 +139,9 @@ ended-told happened cid cause m inner is_end no_dial h none early late may =
         names = (h.connections id).names;
         address = (h.connections id).address;
         forward = (h.connections id).forward;
-        ends = subst (λ es. IsOneEnd (flat_map (causes_by id) es) (stage_at id m) (stage_at id inner.machine)) (sym ends) (by_id id (cid.0 == id) refl);
+        ends = subst (λ es. IsOneEnd (flat_map (causes_by id) es) (stage_at id m) (stage_at id inner.machine)) (sym ends) (one id);
       };
     }
-  where
-    by_id : (id : ℕ) (b : Bool) → (cid.0 == id) ≡ b → IsOneEnd ((if b then cause ∷ [] else []) ++ []) (stage_at id m) (stage_at id inner.machine)
-    by_id id true own =
-        subst (λ i. (stage_at i m ≤ 3) × (stage_ended cause ≤ stage_at i inner.machine) × (stage_at i m ≡ 3 → IsLateCause cause)) (eqb-true cid.0 id own) (early, late, may)
-    by_id id false other = tt
 
 -- ---- a connection comes
 
@@ -264,23 +252,14 @@ changes-told a change m same =
 
 pub peer_comes-told : (big : Bool) (a : Addr) (m : Machine) → IsTold m (peer_comes big a m)
 peer_comes-told big a m =
-    cond_both (is_some (peer_at a m)) Present (if nat_le most_peers (length m.peers) then Full else New) (λ added. IsTold m (came added))
-    (λ is. told_unchanged m (came Present) mute-none refl (record { connections = refl; peers = refl; next_id = refl }))
-    (λ is. cond_both (nat_le most_peers (length m.peers)) Full New (λ added. IsTold m (came added))
-    (λ full. told_unchanged m (came Full) mute-none refl (record { connections = refl; peers = refl; next_id = refl })) (λ room. comes (none_there (peer_at a m) is)))
-  where
-    new : Peer
-    new = new_peer big a
-
-    came : Added → Effect
-    came added = note_of_coming added a (record m { peers = entered_by added new m.peers })
-
-    comes : peer_at a m ≡ None → IsTold m (came New)
-    comes none =
-        noting-told a m (came New) (record { closes = refl; dials = refl; given = refl }) (λ cid. refl) refl refl refl
-        (subst (λ o. LeadTo is_change noted (temp_at a m) (notes_in a (came New).actions) (temp_of o)) (sym (put_in-here new m.peers none))
-        (subst (λ o. LeadTo is_change noted (temp_of o) (notes_in a (came New).actions) (Some Cold)) (sym none) (one_note a a None (Some Cold) note.Known (same_address-self a) refl refl)))
-        (λ b other. no_note b a note.Known (same_turned b a other)) (λ b other. put_in-elsewhere new b m.peers other)
+    let new : Peer = new_peer big a in
+    let came : Added → Effect = λ added. note_of_coming added a (record m { peers = entered_by added new m.peers }) in
+    let comes : peer_at a m ≡ None → IsTold m (came New) =
+    λ none.
+    noting-told a m (came New) (record { closes = refl; dials = refl; given = refl }) (λ cid. refl) refl refl refl
+    (grind (arith, put_in-here new m.peers none, none, one_note a a None (Some Cold) note.Known (same_address-self a) refl refl))
+    (λ b other. no_note b a note.Known (same_turned b a other)) (λ b other. put_in-elsewhere new b m.peers other) in
+    grind (arith, comes, none_there (peer_at a m), told_unchanged m (came Present) mute-none, told_unchanged m (came Full) mute-none)
 
 -- of a peer that is there
 pub peer_goes-told : (a : Addr) (m : Machine) → is_some (peer_at a m) ≡ true → IsTold m (peer_goes a m)

@@ -1,6 +1,6 @@
 -- Where more connections are counted than the hard limit, one of them goes.
-use Rattle.std.proofs.Common.{ℕ, ◌+◌, ◌≤◌, ◌<◌, ◌≡◌, Bool, true, false, not, nat_le, if◌then◌else◌, List, [], ◌∷◌, ◌++◌, map, filter_map, find, Option, Some, None, refl, sym, ap, ◌∙◌, subst, arith, eq-eqb, leb-true, leb-false, All}
-use Rattle.laws.proofs.Words.{cond_both, and_parts, not-true, All-head, All-tail, All-from_recursion, recursion_from_All, first_to_go-law}
+use Rattle.std.proofs.Common.{ℕ, ◌+◌, ◌≤◌, ◌<◌, ◌≡◌, Bool, true, false, nat_le, if◌then◌else◌, List, [], ◌∷◌, ◌++◌, map, filter_map, find, Option, Some, None, refl, sym, ap, ◌∙◌, subst, arith, eq-eqb, leb-true, leb-false, All}
+use Rattle.laws.proofs.Words.{cond_both, All-head, All-tail, All-from_recursion, recursion_from_All, first_to_go-law}
 use Rattle.laws.specs.Words.{AllByRecursion, cons_option, option_map, unwrap_or, Settings, CloseCause, Pruned, Cid, Facts, IsFirstToGo, is_candidate, rank_of_candidate, goes_before, first_of, first_to_go, Candidate, is_counted, has_id, is_live, is_negotiated, Machine, Entry, counted_in, entry_at, Effect, Happened, Move, nothing_more, then_do, as_move, for_each, on_entry, without_entry, lost, ending, candidate_of, candidates_in, trim}
 use Rattle.laws.specs.AtMoves.{as_candidate, IsDueToGo, IsPrunedRightly, IsLawful}
 use Rattle.laws.specs.Laws.{LocalsAreOrdinary}
@@ -17,7 +17,7 @@ use Rattle.laws.proofs.Lawful.{Accounts, accounts_then, accounts_move, Obeys, ob
 use Rattle.laws.proofs.Moves.{gone-counts}
 use Rattle.laws.proofs.Lists.{StandsAt, stands_next, find_only, all-weaker, all-appended, all-both}
 use Rattle.laws.proofs.WholeMoves.{IsLost, ending-keeps}
-use Rattle.laws.proofs.Cases.{by_bool, by_option, some_same}
+use Rattle.laws.proofs.Cases.{by_bool, by_option}
 
 -- ---- whoever is chosen is counted
 
@@ -42,18 +42,7 @@ abbrev candidates_among : List Entry → List Candidate
 candidates_among es = filter_map candidate_of (map (λ e. e.facts) es)
 
 candidate-counted : (f : Facts) (c : Candidate) → candidate_of f ≡ Some c → IsCandidateAs f c
-candidate-counted f c e = by_test (is_candidate f) refl e
-  where
-    by_test : (b : Bool) → is_candidate f ≡ b →
-        option_map (λ rank. record { cid = f.cid; rank = rank }) (if b then Some (rank_of_candidate f) else None) ≡ Some c → IsCandidateAs f c
-    by_test true is same =
-        let parts = and_parts (is_counted f) (not f.local) is in
-        record { same = ap (λ o. cid_of f.cid o) same; counted = parts.0; unused = not-true f.local parts.1; may = is; ranked = some_same _ c same }
-      where
-        cid_of : Cid → Option Candidate → Cid
-        cid_of d None = d
-        cid_of d (Some x) = x.cid
-    by_test false is same = absurd cc
+candidate-counted f c e = grind (arith, e)
 
 pub goes_among : (es : List Entry) (c : Candidate) → first_to_go (candidates_among es) ≡ Some c → Goes es c
 unfolding first_to_go

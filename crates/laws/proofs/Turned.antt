@@ -222,17 +222,15 @@ used-found addr m e o local = grind (arith, find_some (λ x. has_id e.facts.cid.
 used-becomes : (addr : Addr) (act : Entry → Machine → Effect) (new : Entry) (m : Machine) (e : Entry) → Ordered addr m e →
     ((g : Entry) → StandsOpen (alone g) g m → Waits (alone g) m (act g m).machine) → Becomes (Some new) e.facts.cid.0 (act e m).machine →
     Becomes (Some (if e.facts.local then new else e)) e.facts.cid.0 (on_used addr act m).machine
-used-becomes addr act new m e o others turns = by_bool e.facts.local
-    (λ b. Becomes (Some (if b then new else e)) e.facts.cid.0 (on_used addr act m).machine)
-    (λ local. subst (λ x. Becomes (Some new) e.facts.cid.0 (on_entry x act m).machine) (sym (used-found addr m e o local)) turns)
-    (λ not_used. by_option (find (is_used_at addr) m.connections) (λ found. Becomes (Some e) e.facts.cid.0 (on_entry found act m).machine)
-    (λ none. stands-becomes e m o.is)
-    (λ g at.
+used-becomes addr act new m e o others turns =
+    let other : (g : Entry) → find (is_used_at addr) m.connections ≡ Some g → e.facts.local ≡ false → Becomes (Some e) e.facts.cid.0 (act g m).machine =
+    λ g at not_used.
     let place : FoundIn (is_used_at addr) m.connections g = find_some (is_used_at addr) m.connections g at in
     let stands : entry_at g.facts.cid.0 m ≡ Some g = stands-found m g place.place o.ordered.orderly place.stands in
     let used = and_parts (is_live_at addr g.facts) g.facts.local place.passes in
     other-becomes (λ x. x.facts.local) m (act g m).machine e g o.ordered o.is stands not_used used.1
-    (others g (open_alone g m stands (and_parts (same_address g.facts.addr addr) (is_live g.facts) used.0).1))))
+    (others g (open_alone g m stands (and_parts (same_address g.facts.addr addr) (is_live g.facts) used.0).1)) in
+    grind (arith, other, used-found addr m e o, turns, stands-becomes e m o.is)
 
 promotes-becomes : (addr : Addr) (m : Machine) (e : Entry) → Ordered addr m e → Becomes (Some (turned_by_order (Promote addr) e m)) e.facts.cid.0 (promoted_at (live_entry_at addr m) addr m).machine
 promotes-becomes addr m e o =

@@ -1,7 +1,7 @@
 -- How long is waited, and what is left as it was, through each change of a connection.
-use Rattle.std.proofs.Common.{ℕ, ◌+◌, ◌<◌, ◌≤◌, ◌≡◌, ◌⊎◌, Bool, true, false, not, ◌==◌, nat_lt, if◌then◌else◌, List, [], ◌∷◌, ◌++◌, filter, Option, Some, None, refl, sym, ap, ◌∙◌, subst, inl, arith, eqb-true}
+use Rattle.std.proofs.Common.{ℕ, ◌+◌, ◌<◌, ◌≤◌, ◌≡◌, ◌⊎◌, Bool, true, false, not, ◌==◌, nat_lt, if◌then◌else◌, List, [], ◌∷◌, ◌++◌, filter, Option, Some, None, refl, sym, ap, subst, inl, arith, eqb-true}
 use Rattle.laws.proofs.Words.{find-append}
-use Rattle.laws.specs.Words.{option_map, has_id, nothing_undecoded, Peer, Kind, with_entry, without_entry, Machine, Entry, Owed, entry_at, reply_on, owing, paid}
+use Rattle.laws.specs.Words.{nothing_undecoded, Peer, Kind, with_entry, without_entry, Machine, Entry, Owed, entry_at, reply_on, owing, paid}
 use Rattle.laws.specs.CarriedOut.{IsUnset}
 use Rattle.laws.specs.Untouched.{IsAsItWas, KeepsBytes}
 use Rattle.laws.specs.Waits.{until_paid, until_of, until_in, length_of, IsWait}
@@ -82,13 +82,8 @@ pub waits_turned : (scope : Scope) (m : Machine) (e new : Entry) → entry_at e.
 waits_turned scope m e new found mine same right stay = record {
   unset = unchanged (with_entry new m).connections m.peers m.next_id m;
   next = omega arith;
-  each = λ cid. subst (GoesOn scope m cid (entry_at cid m)) (sym (replaced cid new m.connections)) (by_bool (has_id cid new.facts)
-      (λ b. GoesOn scope m cid (entry_at cid m) (if b then option_map (λ x. new) (entry_at cid m) else entry_at cid m))
-      (λ is. by_id cid (ap (λ c. c.0) (sym same) ∙ eqb-true new.facts.cid.0 cid is)) (λ is. on_same scope m cid (entry_at cid m)));
+  each = λ cid. grind (arith, replaced cid new m.connections, found, mine, same, right, stay, on_same scope m cid (entry_at cid m));
 }
-  where
-    by_id : (cid : ℕ) → e.facts.cid.0 ≡ cid → GoesOn scope m cid (entry_at cid m) (option_map (λ x. new) (entry_at cid m))
-    by_id cid is = grind arith
 
 pub waits_gone : (scope : Scope) (m : Machine) (cid : ℕ) → Waits scope m (without_entry cid m)
 waits_gone scope m cid = record {
@@ -122,14 +117,7 @@ owing-right p protocol asked m e = grind (arith, owing-until, kept)
 -- it is paid
 pub paid-until : (p protocol : ℕ) (e : Entry) → until_paid (reply_on p (paid protocol e)) ≡ (if protocol == p then None else until_paid (reply_on p e))
 paid-until p protocol e =
-    ap until_paid (found-filter (λ o. o.protocol == p) (λ o. not (o.protocol == protocol)) (not (p == protocol))
-    (λ o is. ap (λ n. not (n == protocol)) (eqb-true o.protocol p is)) e.owed)
-    ∙ by_tests (protocol == p) (p == protocol) (grind arith)
-  where
-    by_tests : (b c : Bool) → c ≡ b → until_paid (if not c then reply_on p e else None) ≡ (if b then None else until_paid (reply_on p e))
-    by_tests true true same = refl
-    by_tests false false same = refl
-    by_tests b c same = absurd cc
+    grind (arith, found-filter (λ o. o.protocol == p) (λ o. not (o.protocol == protocol)) (not (p == protocol)) (λ o is. ap (λ n. not (n == protocol)) (eqb-true o.protocol p is)) e.owed)
 
 pub paid-right : (p protocol : ℕ) (whole : ℕ) (e : Entry) → IsWait whole (until_paid (reply_on p e)) (until_paid (reply_on p (paid protocol e)))
 paid-right p protocol whole e = grind (arith, paid-until, kept)
