@@ -1,5 +1,5 @@
 -- Who connects is let in, or turned away for the first cause that stands.
-use Rattle.std.proofs.Common.{◌+◌, ◌≡◌, Bool, true, false, ◌&&◌, ◌||◌, if◌then◌else◌, List, [], ◌∷◌, find, cond, Option, Some, None, All, refl, sym, ap, ◌∙◌, subst, arith}
+use Rattle.std.proofs.Common.{◌+◌, ◌≡◌, Bool, true, false, ◌&&◌, if◌then◌else◌, List, [], ◌∷◌, find, Option, Some, None, All, refl, sym, ap, ◌∙◌, subst, arith}
 use Rattle.laws.proofs.Words.{both_ways, and_parts, false_from_ne_true, list_any_none, All-weaker}
 use Rattle.laws.specs.Words.{list_any, accepted, is_live, is_live_at, is_pending, same_address, address_below, Away, OwnAddr, Crossed, Overwritten, Addr, Facts, ending, then_do, turned_away, admitted, accepted_beside, peer_connects, Machine, Entry, fresh_entry, live_entry_at}
 use Rattle.net_base.specs.declared.action.Away.TheVariants.{Full, Present}
@@ -14,7 +14,6 @@ use Rattle.laws.proofs.Silent.{admitted-deaf, turned_away-deaf, part-silent, ask
 use Rattle.laws.proofs.ToldMoves.{new-found}
 use Rattle.laws.proofs.Ties.{live_one}
 use Rattle.laws.proofs.Walk.{Finds}
-use Rattle.laws.proofs.Cases.{by_bool}
 
 -- ---- what is found is what there is
 
@@ -25,13 +24,10 @@ passes_of q (Some e) = q e
 -- where at most one passes a test, whatever passes a stricter one is it
 any-found : (p q : Entry → Bool) → ((e : Entry) → q e ≡ true → p e ≡ true) → (es : List Entry) → OnePasses p es → list_any q es ≡ passes_of q (find p es)
 any-found p q only [] one = refl
-any-found p q only (x ∷ es) one = by_bool (p x)
-    (λ b. list_any q es ≡ passes_of q (find p es) → (q x || list_any q es) ≡ passes_of q (cond b (Some x) (find p es)))
-    (λ here rest.
-    let none : All (λ e. q e ≡ false) es = All-weaker (λ e. p e ≡ false) (λ e. q e ≡ false) (λ e fails. false_from_ne_true (q e) (λ is. both_ways (p e) fails (only e is))) es
-    (OnePasses-none_after p x es one here) in
-    grind (arith, list_any_none q es none))
-    (λ other rest. grind (arith, rest, other, only x)) (any-found p q only es (OnePasses-tail p x es one))
+any-found p q only (x ∷ es) one =
+    let none : p x ≡ true → All (λ e. q e ≡ false) es = λ here.
+    All-weaker (λ e. p e ≡ false) (λ e. q e ≡ false) (λ e fails. false_from_ne_true (q e) (λ is. both_ways (p e) fails (only e is))) es (OnePasses-none_after p x es one here) in
+    grind (arith, none, list_any_none q es, only x, any-found p q only es (OnePasses-tail p x es one))
 
 pub pending-live : (f : Facts) → is_pending f ≡ true → is_live f ≡ true
 pending-live f pending = grind (arith, pending)

@@ -115,9 +115,7 @@ requested-waits : (r : Result Seen FaultKind) (item : Item) (e f : Entry) (m : M
     turned_by_request r item.id e m ≡ Some f → (sort : Kind) → until_of sort f ≡ wait_asked sort e f m
 requested-waits (Err fault) item e f m seen_ h is sort = absurd cc
 requested-waits (Ok seen) item e f m seen_ h is sort =
-    let it : stopped seen.done item.id (m.now + m.settings.idle) (begun item.id e) ≡ f = cc in
-    subst (λ x. until_of sort x ≡ wait_asked sort e x m) it
-    (asked-waits seen.done item.id e m h (woken-runs item.id e.facts (seen-known item.id (agreed_sharing e.facts.agreed) item.body seen seen_)) sort)
+    grind (arith, is, asked-waits seen.done item.id e m h (woken-runs item.id e.facts (seen-known item.id (agreed_sharing e.facts.agreed) item.body seen seen_)) sort)
 
 handled-waits : (p : Phase) (item : Item) (e f : Entry) (m : Machine) → e.facts.phase ≡ p → IsShaped e.facts → turned_by_item p item e m ≡ Some f → (sort : Kind) →
     until_of sort f ≡ wait_handled p item sort e f m

@@ -1,11 +1,10 @@
 -- The moves of the clock: a reply is late, a grace is over, a handshake was not done in time, a time-wait is over.
 use Rattle.std.proofs.Common.{ℕ, zero, suc, ◌≡◌, ◌≤◌, arith, true, false, [], ◌∷◌, Some, All, Contains, refl, sym, ap, subst, leb-true}
-use Rattle.laws.proofs.Words.{cond_both, false≢true, All-weaker, All-contains_itself}
-use Rattle.laws.specs.Words.{Close, Unused, Fault, HandshakeWait, ReplyWait, Facts, Deadline, Kind, Handshake, TimeWait, expired, is_live, live_phase, is_greeting, is_greeting_phase, is_negotiated, Machine, Entry, Owed, Effect, unused, gone, tells, then_do, as_move, peer_at, entry_turns, entry_goes, closing_entry, grace_over, wait_over, deadlines_of, reply_deadline, due, fires_as, fires, fires_some, fire_due}
+use Rattle.laws.proofs.Words.{cond_both, All-weaker, All-contains_itself}
+use Rattle.laws.specs.Words.{Close, Unused, Fault, HandshakeWait, ReplyWait, Facts, Deadline, Kind, Handshake, TimeWait, expired, is_live, live_phase, is_greeting, is_greeting_phase, is_negotiated, Machine, Entry, Owed, Effect, unused, gone, tells, then_do, as_move, entry_turns, entry_goes, closing_entry, grace_over, wait_over, deadlines_of, reply_deadline, due, fires_as, fires, fires_some, fire_due}
 use Rattle.net_base.specs.declared.timer.Kind.TheVariants.{Grace as GraceKind}
-use Rattle.laws.specs.AtMoves.{is_missed, failed_where, FailsWhere, IsPast, IsOver, IsLawful}
+use Rattle.laws.specs.AtMoves.{is_missed, FailsWhere, IsPast, IsOver, IsLawful}
 use Rattle.laws.specs.Sound.{IsOrderly}
-use Rattle.laws.specs.Stages.{stage_of_phase, stage_at}
 use Rattle.laws.specs.Telling.{IsTold}
 use Rattle.laws.specs.Steady.{IsShaped, IsOrdered}
 use Rattle.laws.proofs.Counts.{is_late}
@@ -60,12 +59,11 @@ grace_over-told : (m : Machine) (e : Entry) (k : ℕ) → IsOrderly m → Stands
     IsTold m (as_move (unused e.facts.cid.0) m (then_do (tells (Close e.facts.cid Unused ∷ []) m) (entry_turns e (closing_entry m e))))
 grace_over-told m e k h s live =
     let inner : Effect = entry_turns e (closing_entry m e) m in
-    let early : stage_of_phase e.facts.phase ≤ 3 = live_stage e.facts.phase live in
-    let before : stage_at e.facts.cid.0 m ≡ stage_of_phase e.facts.phase = stands-stage m e k h s in
-    let turns : TurnsInto e (closing_entry m e) = record { same_id = refl; same_addr = refl; live = λ l. absurd (false≢true l) } in
-    let after : stage_at e.facts.cid.0 inner.machine ≡ 4 = turned-stage m e (closing_entry m e) k h s turns in
+    let early = live_stage e.facts.phase live in
+    let before = stands-stage m e k h s in
+    let turns : TurnsInto e (closing_entry m e) = grind arith in
     ended-told (unused e.facts.cid.0) e.facts.cid Unused m inner refl refl (turned-told m e (closing_entry m e) k h s turns (omega (arith, early))) refl
-    (omega (arith, before, early)) (omega (arith, after)) (λ open_. tt)
+    (omega (arith, before, early)) (let after = turned-stage m e (closing_entry m e) k h s turns in omega (arith, after)) (λ open_. tt)
 
 grace_over-obeys : (m : Machine) (e : Entry) (k : ℕ) → IsOrdered m → StandsAt m.connections k e → IsPast m.now e.facts.grace →
     Obeys IsLawful m (grace_over e m)
@@ -93,11 +91,9 @@ dead-unmissed f shape dead = grind (arith, dead, (shape.unused (live-negotiated 
 wait_over-obeys : (m : Machine) (e : Entry) (k : ℕ) → IsOrdered m → StandsAt m.connections k e → is_live e.facts ≡ false →
     Obeys IsLawful m (wait_over e m)
 wait_over-obeys m e k h s dead =
-    let closed : is_negotiated e.facts ≡ false = live-negotiated e.facts dead in
-    let stays : FailsWhere (is_missed e.facts) e m (wait_over e m).machine =
-    subst (λ b. peer_at e.facts.addr m ≡ failed_where b m.now m.settings.backoff (peer_at e.facts.addr m)) (sym (dead-unmissed e.facts (stands-shaped m e k h s) dead)) refl in
-    as_move-obeys IsLawful (gone e.facts.cid.0) m (entry_goes e m) refl
-    (record { back_off = tt; targets = tt; cause = on_stands (λ x. (is_negotiated x.facts ≡ false) × FailsWhere (is_missed x.facts) x m (wait_over e m).machine) m e k h.orderly s (closed, stays) })
+    let right = on_stands (λ x. (is_negotiated x.facts ≡ false) × FailsWhere (is_missed x.facts) x m (wait_over e m).machine) m e k h.orderly s
+    (live-negotiated e.facts dead, rw (dead-unmissed e.facts (stands-shaped m e k h s) dead) refl) in
+    as_move-obeys IsLawful (gone e.facts.cid.0) m (entry_goes e m) refl (record { back_off = tt; targets = tt; cause = right })
     (accounts_gone m e k (wait_over e m) h.orderly s refl (λ addr hot. hot) (λ addr known. known)
     (told_move (gone e.facts.cid.0) m (entry_goes e m) refl refl (goes-told m e k h.orderly s)))
 

@@ -1,7 +1,7 @@
 -- A peer in use cools only by a release, a deactivation or the loss of its connection.
 use Rattle.std.proofs.Common.{ℕ, ◌+◌, ◌≡◌, ◌⊎◌, Bool, true, false, ◌||◌, ◌==◌, find, List, if◌then◌else◌, Option, Some, None, refl, sym, ap, ◌∙◌, subst, inl, inr, arith, eqb-true}
-use Rattle.laws.proofs.Words.{cond_both, and_parts, or_right, list_any_at}
-use Rattle.laws.specs.Words.{turns_at, is_established, is_acquirable, is_live_at, Facts, dial_fails, option_map, unwrap_or, choice_of, has_id, same_address, failed_peer, Addr, Peer, Temp, Cold, Warm, Hot, CloseCause, Overwritten, Pruned, Fault, Protocol, Refused, Query, HandshakeWait, ReplyWait, Order, Ask, Forget, Promote, Release, Activate, Deactivate, is_candidate, is_dialing, is_greeting_phase, is_greeting, is_live, runs, Phase, Greeting, Negotiated, Kind, Item, CutFault, Verdict, kind_of, verdict_of, answer_of, Seen, is_missed, candidates_in, ending, vanishes, with_entry, without_entry, grace_over, acquire, trim, release, awake, dial, dial_opens, fires_as, Effect, nothing_more, on_entry, closes, dialed, promoted_at, is_used_at, on_used, asks_peer, activates, deactivates as rests, carries_out, peer_changes, peer_becomes, peer_comes, peer_goes, peer_at, role_of, judged, greets, own_info, paid, owing, handled_in, handled, faulted, serves, begins, brings, talks, Machine, Entry, entry_at, live_entry_at}
+use Rattle.laws.proofs.Words.{cond_both, and_parts, list_any_at}
+use Rattle.laws.specs.Words.{turns_at, is_established, is_acquirable, is_live_at, Facts, dial_fails, option_map, unwrap_or, choice_of, has_id, same_address, failed_peer, Addr, Peer, Temp, Cold, Warm, Hot, CloseCause, Overwritten, Pruned, Fault, Protocol, Refused, Query, HandshakeWait, ReplyWait, Order, Ask, Forget, Promote, Release, Activate, Deactivate, is_candidate, is_dialing, is_greeting_phase, is_greeting, is_live, Phase, Greeting, Negotiated, Kind, Item, CutFault, Verdict, kind_of, verdict_of, answer_of, Seen, is_missed, candidates_in, ending, vanishes, with_entry, without_entry, grace_over, acquire, trim, release, dial, dial_opens, fires_as, Effect, nothing_more, on_entry, closes, dialed, promoted_at, is_used_at, on_used, asks_peer, activates, deactivates as rests, carries_out, peer_changes, peer_becomes, peer_comes, peer_goes, peer_at, role_of, judged, greets, own_info, paid, owing, handled_in, handled, faulted, serves, begins, brings, talks, Machine, Entry, entry_at, live_entry_at}
 use Rattle.laws.specs.Words.verdict
 use Rattle.laws.specs.Words.kind
 use Rattle.peer_book.specs.Book.{peer_at as peer_in}
@@ -56,10 +56,8 @@ mild_then m n o one two b = stays_then (peer_at b m) (peer_at b n) (peer_at b o)
 -- of a peer that is there
 changed-mild : (a : Addr) (change : Peer → Peer) (m : Machine) → ((p : Peer) → (change p).addr ≡ p.addr) → ((p : Peer) → peer_at a m ≡ Some p → Stays (Some p) (Some (change p))) →
     Mild m (peer_changes a change m).machine
-changed-mild a change m same warm b = by_bool (same_address b a) (λ c. Stays (peer_at b m) (peer_at b (peer_changes a change m).machine))
-    (λ e. subst (λ x. Stays (peer_at x m) (peer_at x (peer_changes a change m).machine)) (sym (same_address-true b a e))
-    (subst (Stays (peer_at a m)) (sym (changed-found a change m same)) (by_option (peer_at a m) (λ o. Stays o (option_map change o)) (λ is. tt) warm)))
-    (λ e. subst (Stays (peer_at b m)) (sym (turns_at-elsewhere a change m same b e)) (stays_itself (peer_at b m)))
+changed-mild a change m same warm b =
+    grind (arith, same_address-true b a, changed-found a change m same, warm, turns_at-elsewhere a change m same b, stays_itself (peer_at b m))
 
 comes-mild : (big : Bool) (a : Addr) (m : Machine) → Mild m (peer_comes big a m).machine
 comes-mild big a m b = grind (arith, comes-machine, stays_itself, entered-cases, same_address-true, put_in-elsewhere)
@@ -115,9 +113,7 @@ judged-beside other e m cold = ending-beside Refused e m
 
 greets-beside : (item : Item) (e : Entry) (m : Machine) → IsCold (peer_at e.facts.addr m) → Beside e m (greets item e m).machine
 greets-beside item e m cold = greets-cases item e m (λ effect. Beside e m effect.machine) (λ fault. ending-beside (Fault fault) e m)
-    (λ msg is.
-    let v : Verdict = verdict_of (role_of e.facts.provenance) (own_info m.settings) msg in
-    subst (λ n. Beside e m (judged v e n).machine) (sym (answer-machine (answer_of v (own_info m.settings)) e.facts.cid m)) (judged-beside v e m cold))
+    (λ msg is. let v : Verdict = verdict_of (role_of e.facts.provenance) (own_info m.settings) msg in rw (answer-machine (answer_of v (own_info m.settings)) e.facts.cid m) (judged-beside v e m cold))
 
 serves-peers : (seen : Seen) (protocol : ℕ) (e : Entry) (m : Machine) → (serves seen protocol e m).machine.peers ≡ m.peers
 serves-peers seen protocol e m = grind (arith, replies-machine seen.reply protocol e m)
@@ -136,12 +132,10 @@ trim-beside e m h found = trim-cases e.facts.cid m (λ effect. Beside e m effect
     (λ other may. same-beside e m (ending Pruned f m).machine (rw (candidate-unmissed f.facts may) refl)) (chosen-goes e.facts.cid m h f is))
 
 begins-beside : (protocol : ℕ) (m : Machine) (e : Entry) (k : ℕ) → IsOrderly m → StandsAt m.connections k e → Beside e m (begins protocol e m).machine
-begins-beside protocol m e k h s = cond_both (runs protocol e.facts.running) (nothing_more m) (awake protocol e m) (λ effect. Beside e m effect.machine)
-    (λ running. same-beside e m m refl)
-    (λ silent.
+begins-beside protocol m e k h s =
     let new : Entry = turned_by (awakes protocol) e m in
-    trim-beside new (with_entry new m) (turned-orderly m e new k h s (record { same_id = refl; same_addr = refl; live = λ l. l }))
-    (turned-found e new m refl ∙ ap (option_map (λ x. new)) (stands-found m e k h s)))
+    let trims = trim-beside new (with_entry new m) (turned-orderly m e new k h s (grind arith)) (turned-found e new m refl ∙ ap (option_map (λ x. new)) (stands-found m e k h s)) in
+    grind (arith, same-beside e m m refl, trims)
 
 brings-mild : (protocol : ℕ) (body : List ℕ) (e : Entry) (m : Machine) → Mild m (brings protocol body e m).machine
 brings-mild = brings-cases (λ m effect. Mild m effect.machine) (λ m. same-mild m m refl) (λ m first next one two. mild_then m first.machine (next first.machine).machine one two)
@@ -181,15 +175,13 @@ lost-listed e k m n b s lost = grind (arith, same_address-self, list_any_at)
 
 beside-cools : (act : Act) (own : ℕ) (does_it : Entry → Machine → Effect) (m : Machine) → ((e : Entry) (k : ℕ) → StandsAt m.connections k e → Beside e m (does_it e m).machine) →
     CoolsOnly act m (on_entry (entry_at own m) does_it m).machine
-beside-cools act own does_it m each = by_option (entry_at own m) (λ o. CoolsOnly act m (on_entry o does_it m).machine) (λ is. mild-cools act m m (same-mild m m refl))
+beside-cools act own does_it m each =
+    let at = λ (e : Entry) (is : entry_at own m ≡ Some e). find_some (λ x. has_id own x.facts) m.connections e is in
+    by_option (entry_at own m) (λ o. CoolsOnly act m (on_entry o does_it m).machine) (λ is. mild-cools act m m (same-mild m m refl))
     (λ e is b.
-    let at = find_some (λ x. has_id own x.facts) m.connections e is in
     let n : Machine = (does_it e m).machine in
-    elim (each e at.place at.stands b) [
-      | inl stays ↦ stays-cooled (releases act b || has_lost b m n) (deactivates act b) (peer_at b m) (peer_at b n) stays
-      | inr lost ↦ subst (λ c. WhereBoth (λ p q. IsCooledBy c (deactivates act b) p.temp q.temp) (peer_at b m) (peer_at b n))
-          (sym (or_right (releases act b) (has_lost b m n) (lost-listed e at.place m n b at.stands lost))) (lost-cooled (deactivates act b) (peer_at b m) (peer_at b n) lost.3)
-    ])
+    let place = find_some (λ x. has_id own x.facts) m.connections e is in
+    grind (arith, each e place.place place.stands b, stays-cooled, lost-listed e place.place m n b place.stands, lost-cooled))
 
 established-cold : (t : Temp) → is_established t ≡ false → t ≡ Cold
 established-cold t h = grind (arith, h)

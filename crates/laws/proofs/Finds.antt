@@ -1,8 +1,7 @@
 -- What a search finds once one element of a list has changed or gone, where at most one passes.
-use Rattle.std.proofs.Common.{ℕ, zero, suc, ◌≡◌, Bool, true, false, List, [], ◌∷◌, find, set, remove, Some, None, All, refl, ap, ◌∙◌, arith, Option, filter, map, not, if◌then◌else◌, ◌==◌, eqb-true}
+use Rattle.std.proofs.Common.{ℕ, zero, suc, ◌≡◌, Bool, true, false, List, [], ◌∷◌, find, set, remove, Some, None, All, refl, ap, ◌∙◌, arith, Option, filter, map, not, if◌then◌else◌, ◌==◌}
 use Rattle.laws.proofs.Lists.{StandsAt, stands_before, OnePasses, OnePasses-none_after, OnePasses-not_before, OnePasses-tail}
 use Rattle.laws.specs.Words.{option_map, has_id, Entry}
-use Rattle.laws.proofs.Cases.{by_bool}
 use Rattle.laws.proofs.Words.{All-head, All-tail, find_past}
 
 pub find-none_passes : {X : Type 0} (p : X → Bool) (xs : List X) → All (λ x. p x ≡ false) xs → find p xs ≡ None
@@ -69,9 +68,4 @@ found-filter {X} q r b each (x ∷ xs) = grind (arith, each x, found-filter q r 
 pub gone-found : (c cid : ℕ) (es : List Entry) → find (λ e. has_id c e.facts) (filter (λ e. not (has_id cid e.facts)) es)
     ≡ (if cid == c then None else find (λ e. has_id c e.facts) es)
 gone-found c cid es =
-    found-filter (λ e. has_id c e.facts) (λ e. not (has_id cid e.facts)) (not (cid == c))
-    (λ e own. ap not (ap (λ n. n == cid) (eqb-true e.facts.cid.0 c own) ∙ same_turned)) es
-    ∙ by_bool (cid == c) (λ b. (if not b then find (λ e. has_id c e.facts) es else None) ≡ (if b then None else find (λ e. has_id c e.facts) es)) (λ is. refl) (λ is. refl)
-  where
-    same_turned : (c == cid) ≡ (cid == c)
-    same_turned = grind arith
+    grind (arith, found-filter (λ e. has_id c e.facts) (λ e. not (has_id cid e.facts)) (not (cid == c)) (λ e own. grind (arith, own)) es)

@@ -4,7 +4,7 @@ use Rattle.laws.proofs.Words.{cond_both, nil_from_length, All-nil, All-cons, All
 use Rattle.laws.specs.Words.{Grace, ForRemote, ForLocal, Phase, Greeting, Closing, Fault, HandshakeWait, ReplyWait, Deadline, Kind, Handshake, TimeWait, Reply2, Reply8, Reply10, deadline_before, is_live, has_id, Machine, Entry, entry_at, deadlines, deadlines_of, phase_deadlines, grace_deadlines, reply_kind, reply_deadline, due, fires_as, fires, fires_some, fire_due, fire_all, timer, earlier, least, on_entry}
 use Rattle.net_base.specs.declared.timer.Kind.TheVariants.{Grace as GraceKind}
 use Rattle.laws.specs.Sound.{IsOrderly}
-use Rattle.laws.proofs.Lists.{StandsAt, stands_next, FoundIn, find_some, find_only}
+use Rattle.laws.proofs.Lists.{StandsAt, stands_next, find_some, find_only}
 use Rattle.laws.proofs.Entries.{one_has_id}
 use Rattle.laws.proofs.Counts.{is_late, late_of, late_in, grace_late_of}
 use Rattle.laws.proofs.Moves.{Lowers, lowers_nothing, lowers_then, lowers_less, ending-lowers, grace_over-lowers, wait_over-lowers}
@@ -24,13 +24,11 @@ fires_as-lowers other = ending-lowers (Fault ReplyWait)
 
 -- whatever deadline fires
 pub fires-lowers : (d : Deadline) (m : Machine) → IsOrderly m → Lowers 0 m (fires d m).machine
-fires-lowers d m h = by_option (entry_at d.cid.0 m) (λ o. Lowers 0 m (on_entry o (fires_as d.kind) m).machine)
-    (λ e. lowers_nothing m h)
-    (λ entry e.
-    let found : FoundIn (λ x. has_id d.cid.0 x.facts) m.connections entry =
-    find_some (λ x. has_id d.cid.0 x.facts) m.connections entry e in
-    lowers_less 0 (fired_of d.kind m.now entry) m (fires_as d.kind entry m).machine (omega arith)
-    (fires_as-lowers d.kind m entry found.place h found.stands))
+fires-lowers d m h =
+    let each = λ (entry : Entry) (e : entry_at d.cid.0 m ≡ Some entry).
+    (let found = find_some (λ x. has_id d.cid.0 x.facts) m.connections entry e in
+    lowers_less 0 (fired_of d.kind m.now entry) m (fires_as d.kind entry m).machine (omega arith) (fires_as-lowers d.kind m entry found.place h found.stands)) in
+    grind (arith, lowers_nothing m h, each)
 
 pub fire_due-lowers : (n : ℕ) (m : Machine) → IsOrderly m → Lowers 0 m (fire_due n m).machine
 unfolding fire_due
@@ -122,11 +120,8 @@ late-counted now ds d c late = grind (arith, is_late, get_or-le-sum_by)
 -- a late deadline of a connection is gone once it has fired
 fired_of-positive : (now : ℕ) (e : Entry) (d : Deadline) → Contains (deadlines_of e) d → is_late now d ≡ true →
     1 ≤ fired_of d.kind now e
-fired_of-positive now e d c late = by_kind d.kind refl
-  where
-    by_kind : (kind : Kind) → d.kind ≡ kind → 1 ≤ fired_of kind now e
-    by_kind GraceKind is = late-counted now (grace_deadlines e.facts.cid e.facts.grace) d (grace-among e d c is) late
-    by_kind other is = late-counted now (deadlines_of e) d c late
+fired_of-positive now e d c late =
+    grind (arith, late-counted now (deadlines_of e) d c late, grace-among e d c, late-counted now (grace_deadlines e.facts.cid e.facts.grace) d)
 
 -- the deadline that fires next is late, and stands among those of the record
 pub due-contains : (m : Machine) (d : Deadline) → due m ≡ Some d → Contains (deadlines m) d × (is_late m.now d ≡ true)

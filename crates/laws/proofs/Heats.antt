@@ -1,9 +1,9 @@
 -- A peer that has answered where the chains meet is hot.
-use Rattle.std.proofs.Common.{◌≡◌, true, false, ◌==◌, is_some, Option, Some, None, refl, sym, ap, ◌∙◌, subst, eqb-true, arith}
+use Rattle.std.proofs.Common.{◌≡◌, true, false, ◌==◌, is_some, Option, Some, None, sym, ap, ◌∙◌, subst, eqb-true, arith}
 use Rattle.laws.proofs.Words.{cond_both, false≢true}
-use Rattle.laws.specs.Words.{Item, Phase, Hot, Peer, Addr, Fault, Protocol, CloseCause, has_id, is_negotiated_phase, Effect, then_do, on_entry, entry_turns, with_entry, ending, handled, handled_in, answered_as, Owed, pays, paid, brings, peer_becomes, peer_at, Machine, Entry, entry_at}
+use Rattle.laws.specs.Words.{Item, Phase, Hot, Peer, Addr, Fault, Protocol, CloseCause, has_id, is_negotiated_phase, Effect, then_do, entry_turns, with_entry, ending, handled_in, answered_as, Owed, pays, paid, brings, peer_becomes, peer_at, Machine, Entry, entry_at}
 use Rattle.laws.specs.Acts.{Act, handles_item, does}
-use Rattle.laws.specs.CarriedOut.{OnPeer, WhereAnswered, HeatsUp}
+use Rattle.laws.specs.CarriedOut.{OnPeer, HeatsUp}
 use Rattle.laws.proofs.Failures.{changed-found}
 use Rattle.laws.proofs.Lists.{find_some}
 use Rattle.laws.proofs.Moments.{ending-none}
@@ -32,13 +32,8 @@ handled-hot : (p : Phase) (item : Item) (e : Entry) (m : Machine) → is_negotia
 handled-hot p item e m negotiated answers on = grind (arith, answered-hot)
 
 pub heats-up : (act : Act) (m : Machine) → HeatsUp act m (does act m).machine
-heats-up (handles_item own item) m = by_entry (entry_at own.0 m) refl
-  where
-    by_entry : (o : Option Entry) → entry_at own.0 m ≡ o →
-        WhereAnswered item o (λ e. is_some (entry_at own.0 (on_entry o (handled item) m).machine) ≡ true → OnPeer (peer_at e.facts.addr (on_entry o (handled item) m).machine) (λ p. p.temp ≡ Hot))
-    by_entry None is = tt
-    by_entry (Some e) is = λ negotiated answers on.
-        subst (λ c. is_some (entry_at c (handled item e m).machine) ≡ true → OnPeer (peer_at e.facts.addr (handled item e m).machine) (λ p. p.temp ≡ Hot))
-        (eqb-true e.facts.cid.0 own.0 (find_some (λ x. has_id own.0 x.facts) m.connections e is).passes)
-        (handled-hot e.facts.phase item e m negotiated answers on)
+heats-up (handles_item own item) m =
+    let each = λ (e : Entry). handled-hot e.facts.phase item e m in
+    let own_id = λ (e : Entry) (is : entry_at own.0 m ≡ Some e). eqb-true e.facts.cid.0 own.0 (find_some (λ x. has_id own.0 x.facts) m.connections e is).passes in
+    grind (arith, each, own_id)
 heats-up other m = tt

@@ -1,6 +1,6 @@
 -- The moves of a part of a step: each keeps a law, no connection whose handshake is done is gone without one, and nobody
 -- comes up without one.
-use Rattle.std.proofs.Common.{ℕ, ◌%◌, ◌≡◌, ◌≤◌, Bool, true, false, nat_lt, if◌then◌else◌, arith, List, [], ◌∷◌, ◌++◌, Some, refl, sym, ap, ◌∙◌, subst}
+use Rattle.std.proofs.Common.{ℕ, ◌%◌, ◌≡◌, ◌≤◌, Bool, true, false, nat_lt, arith, List, [], Some, refl, sym, ap, ◌∙◌, subst}
 use Rattle.laws.proofs.Words.{false≢true}
 use Rattle.laws.specs.Words.{AllByRecursion, same_address, Action, CloseCause, Unused, Overwritten, Facts, Phase, Negotiated, Closing, Peer, has_id, is_live, live_phase, is_negotiated, is_negotiated_phase, Machine, Entry, entry_at, Effect, Happened, Move, promoted, shared, ended, nothing_more, tells, then_do, as_move, peer_at, peer_changes, peer_succeeds, note_of_coming, peer_comes, Addr, new_peer, entry_of, entered, Added, New, owing, sends_as_initiator, with_entry, without_entry, entry_turns, entry_goes, lost, lost_by, ending, is_used, Warm, written_alive}
 use Rattle.warm_messages.specs.declared.alive.Alive.TheVariants.{Ask}
@@ -9,7 +9,7 @@ use Rattle.laws.specs.Parts.{RisesBy}
 use Rattle.laws.specs.Sound.{IsOrderly}
 use Rattle.laws.specs.Stages.{stage_of_phase, stage_of, stage_at, stage_ended, IsLateCause}
 use Rattle.laws.specs.Telling.{IsTold}
-use Rattle.laws.specs.InActions.{Given, ended_by, promoted_by_dial}
+use Rattle.laws.specs.InActions.{ended_by, promoted_by_dial}
 use Rattle.laws.proofs.Entries.{TurnsInto, one_has_id, has_own_id, with_new}
 use Rattle.laws.proofs.Failures.{ending-failed}
 use Rattle.laws.proofs.Keeping.{note-machine}
@@ -20,7 +20,6 @@ use Rattle.laws.proofs.Rises.{rises_by_then, rises_by_move, rises_said, StaysDow
 use Rattle.laws.proofs.Telling.{are_mute, mute, told_unchanged, told_then, told_move}
 use Rattle.laws.proofs.Ties.{turned_elsewhere}
 use Rattle.laws.proofs.ToldMoves.{turned-told, goes-told, goes-stage, ended-told, changes-told, turns_at-next, peer_comes-told, turns_at-moves, turns_at-connections}
-use Rattle.laws.proofs.Cases.{by_bool}
 
 -- ---- nobody comes up without a move
 
@@ -70,9 +69,7 @@ accounts_gone m e k effect h s same hot known told = grind (arith, accounts_none
 pub accounts_come : (m : Machine) (new : Entry) (effect : Effect) → is_up_connection (Some new) ≡ false → is_asked_connection (Some new) ≡ false →
     effect.machine ≡ with_new new m → IsTold m effect → Accounts m effect
 accounts_come m new effect up asked same told =
-    accounts_none m effect
-    (subst (NoneConnected m) (sym same) (record { up = come-down is_up_connection refl m new up; asked = come-down is_asked_connection refl m new asked }))
-    (subst (StaysDown is_hot m) (sym same) (λ addr hot. hot)) (subst (StaysDown is_known m) (sym same) (λ addr known. known)) told
+    accounts_none m effect (grind (arith, same, come-down is_up_connection refl m new up, come-down is_asked_connection refl m new asked)) (grind (arith, same)) (grind (arith, same)) told
 
 -- ---- each move keeps a law
 
@@ -191,18 +188,10 @@ pub ending-obeys : (cause : CloseCause) (m : Machine) (e : Entry) (k : ℕ) → 
 ending-obeys cause m e k h s live may crowded =
     let n : Machine = without_entry e.facts.cid.0 m in
     let q : IsQuiet n (lost_by cause e.facts n) = lost_by-quiet cause e.facts n in
-    let move : Move = record { happened = ended e.facts.cid.0 cause; before = m; after = (ending cause e m).machine } in
-    let moves : (ending cause e m).moves ≡ move ∷ [] = ap (λ ms. ms ++ move ∷ []) q.moves in
+    let right = on_stands (λ x. (is_negotiated x.facts ≡ true → IsLateCause cause) × IsPrunedRightly cause x m × FailsWhere (is_failure cause x.facts) x m (ending cause e m).machine) m e k h s
+    (may, crowded, ending-failed cause e m) in
     record {
-      lawful = subst (AllByRecursion IsLawful) (sym moves) (
-        record {
-          back_off = tt;
-          targets = tt;
-          cause = on_stands (λ x. (is_negotiated x.facts ≡ true → IsLateCause cause) × IsPrunedRightly cause x m × FailsWhere (is_failure cause x.facts) x m (ending cause e m).machine) m e k h s
-              (may, crowded, ending-failed cause e m);
-        },
-        tt,
-      );
+      lawful = grind (arith, q.moves, right);
       accounted = accounts_gone m e k (ending cause e m) h s q.connections q.hot q.known (ending-told cause m e k h s live may);
     }
 
@@ -262,10 +251,7 @@ as_move-obeys Law happened m effect none law accounted = grind arith
 -- a promotion that gives out no id is no dial
 reuse-told : (a : Addr) (m : Machine) (effect : Effect) → effect.machine.next_id ≡ m.next_id → IsTold m effect → IsTold m (as_move (promoted a) m effect)
 reuse-told a m effect same h =
-    let dial : Given = record { cid = m.next_id; addr = a } in
-    told_move (promoted a) m effect refl (subst (λ next. promoted_by_dial (promoted a) m.next_id next ≡ []) (sym same) (by_bool (nat_lt m.next_id m.next_id)
-    (λ b. b ≡ false → (if b then dial ∷ [] else []) ≡ [])
-    (λ here is. absurd (false≢true (sym is))) (λ here is. refl) (not_below m.next_id))) h
+    told_move (promoted a) m effect refl (grind (arith, same, not_below m.next_id)) h
 
 -- a connection that stood comes into use, as a promotion of its address
 pub promoted-obeys : (Law : Move → Type 0) (f : Facts) (m : Machine) (e : Entry) (k : ℕ) (a : Addr) → IsOrderly m → StandsAt m.connections k e → f.cid ≡ e.facts.cid → f.addr ≡ e.facts.addr →

@@ -1,8 +1,7 @@
 -- One element of a list: what is found, what takes its place, and the list without it.
-use Rattle.std.proofs.Common.{nat_lt, ℕ, zero, suc, ◌+◌, ◌<◌, ◌≡◌, Bool, true, false, cond, not, List, [], ◌∷◌, ◌++◌, length, map, filter, find, set, remove, get_or, Some, None, All, AllPairs, sum_by, count_by, flat_map, if◌then◌else◌, refl, sym, ap, ◌∙◌, subst, arith}
+use Rattle.std.proofs.Common.{nat_lt, ℕ, zero, suc, ◌+◌, ◌<◌, ◌≡◌, Bool, true, false, cond, not, List, [], ◌∷◌, ◌++◌, length, map, filter, find, set, remove, get_or, Some, None, All, AllPairs, sum_by, count_by, flat_map, if◌then◌else◌, refl, ap, ◌∙◌, subst, arith}
 use Rattle.laws.proofs.Words.{false_from_ne_true, both_ways, All-head, All-tail, All-cons, All-nil, All-set, All-weaker, AllPairs-cons, sum_by-cons, sum_by-append, sum_by-set, sum_by-remove, get_or-le-sum_by, All-append, All-filter, All-map, All-from_recursion, recursion_from_All, filter_passes, map_fixed, fold-map}
 use Rattle.laws.specs.Words.{AllByRecursion}
-use Rattle.laws.proofs.Cases.{by_bool}
 
 -- no number is below itself
 pub not_below : (n : ℕ) → nat_lt n n ≡ false
@@ -107,14 +106,10 @@ pub record FoundIn {X : Type 0} (p : X → Bool) (xs : List X) (x : X) : Type 0 
 
 pub find_some : {X : Type 0} (p : X → Bool) (xs : List X) (x : X) → find p xs ≡ Some x → FoundIn p xs x
 find_some p [] x e = absurd cc
-find_some {X} p (y ∷ ys) x e = by_bool (p y)
-    (λ b. (find p ys ≡ Some x → FoundIn p ys x) → cond b (Some y) (find p ys) ≡ Some x → FoundIn p (y ∷ ys) x)
-    (λ here later e.
-    let same : y ≡ x = cc in
-    record { place = 0; stands = record { inside = omega arith; is = same }; passes = ap p (sym same) ∙ here })
-    (λ here later e.
-    let found : FoundIn p ys x = later e in
-    record { place = suc found.place; stands = stands_next y x ys found.place found.stands; passes = found.passes }) (find_some p ys x) e
+find_some {X} p (y ∷ ys) x e =
+    let later : find p ys ≡ Some x → FoundIn p (y ∷ ys) x = λ is.
+    let found : FoundIn p ys x = find_some p ys x is in record { place = suc found.place; stands = stands_next y x ys found.place found.stands; passes = found.passes } in
+    grind (arith, later)
 
 pub find_none : {X : Type 0} (p : X → Bool) (xs : List X) → find p xs ≡ None → All (λ x. p x ≡ false) xs
 find_none p [] e = All-nil (λ x. p x ≡ false)
@@ -136,8 +131,7 @@ AllPairs-set R new x (y ∷ ys) zero s before after h = grind (arith, AllPairs-h
 AllPairs-set R new x (y ∷ ys) (suc k) s before after h =
     let rest : StandsAt ys k x = stands_before y x ys k s in
     let heads : All (R y) ys = AllPairs-head R y ys h in
-    AllPairs-cons R y (set ys k new) (All-set (R y) ys k new (before y (All-stands (R y) ys k x rest heads)) heads)
-    (AllPairs-set R new x ys k rest before after (AllPairs-tail R y ys h))
+    grind (arith, AllPairs-cons R y, All-set (R y) ys k new, before y, All-stands (R y) ys k x rest, heads, AllPairs-set R new x ys k rest before after (AllPairs-tail R y ys h))
 
 -- how one element stands to all others
 pub All-others : {X : Type 0} (R : X → X → Type 0) → ((y z : X) → R y z → R z y) → (x : X) (xs : List X) (k : ℕ) →

@@ -6,7 +6,7 @@ use Rattle.laws.specs.Acts.{Act, does}
 use Rattle.laws.specs.AtMoves.{ends, is_ended_in}
 use Rattle.laws.specs.OpenEnds.{is_open_entry, is_open_at, goes_by_itself, IsOpenEnd, OpenEndsOnce}
 use Rattle.laws.specs.Parts.{IsNext}
-use Rattle.laws.specs.Stages.{stage_of, stage_at, causes_in, IsOneEnd, IsLateCause}
+use Rattle.laws.specs.Stages.{stage_of, stage_at, causes_in, IsLateCause}
 use Rattle.laws.specs.Telling.{IsTold}
 use Rattle.laws.proofs.Walk.{Finds, Scope, Stands, Turn, turned_by, turned-cid, turned-live, shuts, Kept, scope_of, walk, own_id}
 use Rattle.laws.proofs.Moments.{turned-found}
@@ -135,15 +135,9 @@ live-stage (Some e) given h = live_stage e.facts.phase h
 pub ended_once : (cid : ℕ) (m : Machine) (effect : Effect) (stays itself : Bool) (law : List CloseCause → Type 0) → IsTold m effect →
     (stays || (is_ended_in cid effect.moves || itself)) ≡ true → (stays ≡ true → stage_at cid effect.machine ≤ 3) → ((stays || itself) ≡ true → law []) →
     ((cause : CloseCause) → stays ≡ false → (stage_at cid m ≡ 3 → IsLateCause cause) → law (cause ∷ [])) → law (causes_in cid effect.moves)
-ended_once cid m effect stays itself law told ends open_ none one = by_causes (causes_in cid effect.moves) refl (told.connections cid).ends
-  where
-    without : (a b c : Bool) → b ≡ false → (a || (b || c)) ≡ true → (a || c) ≡ true
-    without true b c none h = refl
-    without false true c none h = absurd (false≢true (sym none))
-    without false false c none h = h
-
-    by_causes : (causes : List CloseCause) → causes_in cid effect.moves ≡ causes → IsOneEnd causes (stage_at cid m) (stage_at cid effect.machine) → law causes
-    by_causes causes is once = grind (arith, without, uncaused, ended-over)
+ended_once cid m effect stays itself law told ends open_ none one =
+    let once = (told.connections cid).ends in
+    grind (arith, once, ends, open_, none, one, uncaused, ended-over)
 
 pub opens-once : (act : Act) (m : Machine) → IsNext act m → Finds act m → IsTold m (does act m) → OpenEndsOnce act m (does act m)
 opens-once act m next found told cid was =

@@ -39,9 +39,7 @@ chosen-went m n old new same list h e is =
     subst (λ es. find (λ x. has_id e.facts.cid.0 x.facts) es ≡ Some e) list (found_by_id n e at.place e.facts.cid h at.stands refl) in
     let stood : (e.facts.cid.0 == old.facts.cid.0) ≡ false → entry_at e.facts.cid.0 m ≡ Some e =
     λ apart. grind (arith, apart, same, sym (replaced e.facts.cid.0 new m.connections) ∙ there) in
-    by_bool (e.facts.cid.0 == old.facts.cid.0)
-    (λ b. (b || is_candidate e.facts) ≡ true → (b || is_candidate_entry (entry_at e.facts.cid.0 m)) ≡ true)
-    (λ own may. refl) (λ apart may. ap is_candidate_entry (stood apart) ∙ may) (chosen-goes old.facts.cid n h e is)
+    grind (arith, stood, chosen-goes old.facts.cid n h e is)
 
 -- ---- an item, and a release
 

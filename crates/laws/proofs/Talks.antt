@@ -1,9 +1,8 @@
 -- A connection whose handshake is done: whatever comes in, the connections stay in order and within the limit.
 use Rattle.std.proofs.Common.{ℕ, ◌+◌, [], ◌∷◌, is_some, ◌≤◌, ◌≡◌, Bool, true, false, ◌||◌, ◌==◌, if◌then◌else◌, List, find, Option, Some, None, Result, Ok, Err, refl, sym, ap, ◌∙◌, subst, arith, eqb-true}
-use Rattle.laws.proofs.Words.{cond_both, false≢true, or_right}
+use Rattle.laws.proofs.Words.{cond_both, or_right}
 use Rattle.laws.specs.Words.{same_address, Fault, FaultKind, Protocol, UnknownId, Addr, Facts, Responders, Peer, Hot, awakened, idled, effective_of, has_responder, is_live, agreed_sharing, has_id, is_negotiated, runs, some_runs, Item, watched, seen_by_number, chain_sync_seen, block_fetch_seen, tx_submission_seen, keep_alive_seen, peer_sharing_seen, Reply, Seen, item_number_of, alive_of, share_of, Share, Machine, Entry, Owed, counted_in, entry_at, live_entry_at, Effect, shared, nothing_more, then_do, on_entry, on_connection, peer_at, peer_becomes, peer_comes, with_entry, entry_turns, ending, trim, awake, idle, replies, stops_if, serves, begins, takes_requests, shares_address, taken_of, takes_addresses, brings, talks, reply_on, without_reply, paid, Cid}
 use Rattle.laws.specs.Words.reply
-use Rattle.laws.specs.Words.share
 use Rattle.laws.proofs.Effects.{counted-running}
 use Rattle.laws.proofs.Entries.{TurnsInto, turned-connections}
 use Rattle.laws.specs.AtMoves.{IsLawful, is_up, is_asked_connection, is_hot_or_asked, is_known, promotes, activates, shares}
@@ -49,12 +48,7 @@ any_true x = or_right x true refl
 runs-some_by : (r : Responders) (a b c d e : Bool) →
     (if a then r.chain_sync else if b then r.block_fetch else if c then r.tx_submission else if d then r.keep_alive else if e then r.peer_sharing else false) ≡ true →
     some_runs r ≡ true
-runs-some_by r true b c d e h = rw h refl
-runs-some_by r false true c d e h = rw h (rw (any_true r.chain_sync) refl)
-runs-some_by r false false true d e h = rw h (rw (any_true (r.chain_sync || r.block_fetch)) refl)
-runs-some_by r false false false true e h = rw h (rw (any_true (r.chain_sync || r.block_fetch || r.tx_submission)) refl)
-runs-some_by r false false false false true h = rw h (any_true (r.chain_sync || r.block_fetch || r.tx_submission || r.keep_alive))
-runs-some_by r false false false false false h = absurd (false≢true h)
+runs-some_by r a b c d e h = grind (arith, h)
 
 pub runs-some : (protocol : ℕ) (r : Responders) → runs protocol r ≡ true → some_runs r ≡ true
 runs-some protocol r h = runs-some_by r (protocol == 2) (protocol == 3) (protocol == 4) (protocol == 8) (protocol == 10) h
@@ -130,12 +124,10 @@ serves-trimmed seen protocol cid m h within running = by_option (entry_at cid.0 
     (λ e is.
     let at = find_some (λ y. has_id cid.0 y.facts) m.connections e is in
     let first : Effect = replies seen.reply protocol e m in
-    let same : m ≡ first.machine = sym (replies-machine seen.reply protocol e m) in
+    let same = replies-machine seen.reply protocol e m in
     trimmed_then IsLawful m first (stops_if seen.done protocol e)
-    (keeps-trimmed IsLawful m first within (subst (Keeps 0 m) same (keeps_nothing m h))
-    (quiet-obeys IsLawful m first (replies-quiet seen.reply protocol e m)))
-    (subst (λ n. Trimmed IsLawful n (stops_if seen.done protocol e n)) same
-    (stops_if-trimmed seen.done protocol m e at.place h within at.stands (running e is))))
+    (keeps-trimmed IsLawful m first within (grind (arith, same, keeps_nothing m h)) (quiet-obeys IsLawful m first (replies-quiet seen.reply protocol e m)))
+    (grind (arith, same, stops_if-trimmed seen.done protocol m e at.place h within at.stands (running e is))))
 
 asked-trimmed : (item : Item) (seen : Seen) (m : Machine) (e : Entry) (k : ℕ) → watched item.id (agreed_sharing e.facts.agreed) item.body ≡ Ok seen → takes_requests e ≡ true →
     Talking m e k → Trimmed IsLawful m (then_do (begins item.id e m) (on_connection e.facts.cid (serves seen item.id)))
@@ -155,13 +147,10 @@ shared-trimmed addr m h within other =
     (shared-accounts false addr m))
 
 takes-trimmed : (o : Option Share) (m : Machine) → IsOrdered m → counted_in m ≤ m.settings.hard → Trimmed IsLawful m (takes_addresses o m)
-takes-trimmed o m h within = trimmed_both IsAllowed Within IsLawful (allowed_within) m (takes_addresses o m) (by_message o) (takes-within o m)
-  where
-    by_message : (o : Option Share) → Trimmed IsAllowed m (takes_addresses o m)
-    by_message (Some (share.Peers told)) =
-        for_each_that-trimmed IsAllowed IsOther shares_address (shared-trimmed) (taken_of told m) m h within
-        (taken-other m.settings (effective_of m.targets m.now).known m.peers told)
-    by_message other = nothing-trimmed IsAllowed m within h
+takes-trimmed o m h within =
+    let each = λ (told : List Addr). for_each_that-trimmed IsAllowed IsOther shares_address (shared-trimmed) (taken_of told m) m h within
+    (taken-other m.settings (effective_of m.targets m.now).known m.peers told) in
+    trimmed_both IsAllowed Within IsLawful (allowed_within) m (takes_addresses o m) (grind (arith, each, nothing-trimmed IsAllowed m within h)) (takes-within o m)
 
 -- what is asked of a peer is answered: it is hot
 paid-none : (owed : List Owed) → is_some (find (λ o. o.protocol == 2) (without_reply 2 owed)) ≡ false

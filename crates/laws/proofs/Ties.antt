@@ -1,6 +1,6 @@
 -- What ties a peer to the live connection of its address, through each change of either.
-use Rattle.std.proofs.Common.{ℕ, ◌≡◌, Bool, true, false, cond, not, ◌&&◌, if◌then◌else◌, List, [], ◌∷◌, ◌++◌, get_or, find, Option, Some, None, is_some, refl, sym, ap, ◌∙◌, subst, arith}
-use Rattle.laws.proofs.Words.{both_ways, false≢true, and_parts, and_from, false_from_ne_true, find-append}
+use Rattle.std.proofs.Common.{ℕ, ◌≡◌, Bool, true, false, cond, ◌&&◌, if◌then◌else◌, List, [], ◌∷◌, ◌++◌, get_or, find, Option, Some, None, is_some, refl, sym, ap, ◌∙◌, subst, arith}
+use Rattle.laws.proofs.Words.{both_ways, false≢true, and_from, false_from_ne_true, find-append}
 use Rattle.laws.specs.Words.{same_address, Addr, Facts, Peer, is_live, is_live_at, has_address, without_peer, new_peer, entered, Machine, Entry, live_entry_at, peer_at, turns_at, peer_changes, with_entry, without_entry}
 use Rattle.peer_book.specs.Book.{peer_at as peer_in, with_peer as with_peer_in, with_new as with_new_in}
 use Rattle.laws.specs.Laws.{LiveAddressesDistinct}
@@ -11,7 +11,7 @@ use Rattle.laws.proofs.Entries.{TurnsInto, turned-connections, gone-connections,
 use Rattle.laws.proofs.Finds.{find-set_other, find-set_here, find-set_gone, find-remove_other, find-remove_here}
 use Rattle.laws.proofs.Lists.{StandsAt, OnePasses, find_some, find_only}
 use Rattle.laws.proofs.PeersApart.{same_turned, entered-cases}
-use Rattle.laws.proofs.Cases.{by_bool, by_option}
+use Rattle.laws.proofs.Cases.{by_bool}
 
 -- ---- all but one address stay
 
@@ -30,13 +30,9 @@ tied_but a m n now peers lives here h b = by_bool (same_address b a) (λ c. Tied
 -- at most one is
 pub live_one : (addr : Addr) (m : Machine) → LiveAddressesDistinct m → OnePasses (λ e. is_live_at addr e.facts) m.connections
 live_one addr m h i j d before inside here =
-    false_from_ne_true (is_live_at addr (get_or m.connections j d).facts) (λ there.
     let e : Entry = get_or m.connections i d in
     let f : Entry = get_or m.connections j d in
-    let one = and_parts (same_address e.facts.addr addr) (is_live e.facts) here in
-    let two = and_parts (same_address f.facts.addr addr) (is_live f.facts) there in
-    h i j d before inside one.1 two.1
-    (same_address-true e.facts.addr addr one.0 ∙ sym (same_address-true f.facts.addr addr two.0)))
+    grind (arith, here, h i j d before inside, same_address-true e.facts.addr addr, same_address-true f.facts.addr addr)
 
 pub live_here : (m : Machine) (e : Entry) (k : ℕ) → IsOrderly m → StandsAt m.connections k e → is_live e.facts ≡ true → live_entry_at e.facts.addr m ≡ Some e
 live_here m e k h s live = grind (arith, find_only, live_one, same_address-self)
@@ -84,13 +80,7 @@ gone_here m e k h s live = grind (arith, gone-connections, find-remove_here, liv
 
 pub peer_elsewhere : (new : Peer) (b : Addr) (ps : List Peer) → same_address b new.addr ≡ false → peer_in b (with_peer_in new ps) ≡ peer_in b ps
 peer_elsewhere new b [] other = refl
-peer_elsewhere new b (p ∷ ps) other = by_bool (has_address new.addr p)
-    (λ c. peer_in b (with_peer_in new ps) ≡ peer_in b ps → peer_in b ((if c then new else p) ∷ with_peer_in new ps) ≡ peer_in b (p ∷ ps))
-    (λ e rest.
-    let here : same_address new.addr b ≡ false = same_turned b new.addr other in
-    let same : same_address p.addr b ≡ false = subst (λ a. same_address a b ≡ false) (sym (same_address-true p.addr new.addr e)) here in
-    rw (here, same) rest)
-    (λ e rest. ap (λ o. cond (has_address b p) (Some p) o) rest) (peer_elsewhere new b ps other)
+peer_elsewhere new b (p ∷ ps) other = grind (arith, peer_elsewhere new b ps other, same_address-true p.addr new.addr, same_turned b new.addr other)
 
 pub peer_here : (new p : Peer) (ps : List Peer) → peer_in new.addr ps ≡ Some p → peer_in new.addr (with_peer_in new ps) ≡ Some new
 peer_here new p [] found = absurd cc
@@ -107,10 +97,8 @@ pub turned-ties : (m : Machine) (e new : Entry) (k : ℕ) → IsOrderly m → St
 turned-ties m e new k h s t step ties = by_bool (is_live e.facts) (λ b. IsTied (with_entry new m))
     (λ live.
     tied_but e.facts.addr m (with_entry new m) refl (λ b other. refl) (turned_elsewhere m e new k h s t)
-    (subst (λ o. TiedBy m.now (peer_at e.facts.addr m) o) (sym (turned_here m e new k h s t live))
-    (step live (peer_at e.facts.addr m) refl (subst (λ o. TiedBy m.now (peer_at e.facts.addr m) o) (live_here m e k h s live) (ties e.facts.addr)))) ties)
-    (λ dead.
-    λ b. subst (λ o. TiedBy m.now (peer_at b m) o) (sym (turned_dead m e new k h s t dead b)) (ties b))
+    (grind (arith, turned_here m e new k h s t live, step live (peer_at e.facts.addr m) refl, live_here m e k h s live, ties e.facts.addr)) ties)
+    (λ dead b. grind (arith, turned_dead m e new k h s t dead b, ties b))
 
 -- a connection goes
 pub gone-ties : (m : Machine) (e : Entry) (k : ℕ) → IsOrderly m → StandsAt m.connections k e →
@@ -177,12 +165,7 @@ comes-ties big addr m ties = entered-cases (new_peer big addr) m.peers (λ ps. I
 
 pub taken-elsewhere : (addr b : Addr) (ps : List Peer) → same_address b addr ≡ false → peer_in b (without_peer addr ps) ≡ peer_in b ps
 taken-elsewhere addr b [] other = refl
-taken-elsewhere addr b (p ∷ ps) other = by_bool (same_address p.addr addr)
-    (λ c. peer_in b (without_peer addr ps) ≡ peer_in b ps → peer_in b (cond (not c) (p ∷ without_peer addr ps) (without_peer addr ps)) ≡ peer_in b (p ∷ ps))
-    (λ e rest.
-    let same : same_address p.addr b ≡ false = subst (λ a. same_address a b ≡ false) (sym (same_address-true p.addr addr e)) (same_turned b addr other) in
-    rw same rest)
-    (λ e rest. ap (λ o. cond (has_address b p) (Some p) o) rest) (taken-elsewhere addr b ps other)
+taken-elsewhere addr b (p ∷ ps) other = grind (arith, taken-elsewhere addr b ps other, same_address-true p.addr addr, same_turned b addr other)
 
 pub taken-here : (addr : Addr) (ps : List Peer) → peer_in addr (without_peer addr ps) ≡ None
 taken-here addr [] = refl
@@ -209,16 +192,10 @@ pub come-ties : (m : Machine) (new : Entry) → is_live new.facts ≡ true → l
     (TiedBy m.now (peer_at new.facts.addr m) None → TiedBy m.now (peer_at new.facts.addr m) (Some new)) → IsTied m → IsTied (with_new new m)
 come-ties m new live none step ties =
     let a : Addr = new.facts.addr in
-    tied_but a m (with_new new m) refl (λ b other. refl) (λ b other. come_elsewhere m new b other)
-    (subst (λ o. TiedBy m.now (peer_at a m) o)
-    (sym (find-push_here (λ e. is_live_at a e.facts) new m.connections none
-    (and_from (same_address a a) (is_live new.facts) (same_address-self a) live)))
-    (step (subst (λ o. TiedBy m.now (peer_at a m) o) none (ties a)))) ties
+    let here = find-push_here (λ e. is_live_at a e.facts) new m.connections none (and_from (same_address a a) (is_live new.facts) (same_address-self a) live) in
+    tied_but a m (with_new new m) refl (λ b other. refl) (λ b other. come_elsewhere m new b other) (grind (arith, here, step, none, ties a)) ties
 
 -- a change at one address leaves the peers of all others
 pub turns_at-elsewhere : (a : Addr) (change : Peer → Peer) (m : Machine) → ((p : Peer) → (change p).addr ≡ p.addr) → (b : Addr) → same_address b a ≡ false →
     peer_at b (peer_changes a change m).machine ≡ peer_at b m
-turns_at-elsewhere a change m same b other = by_option (peer_at a m) (λ o. peer_at b (turns_at o change m).machine ≡ peer_at b m)
-    (λ is. refl)
-    (λ p is.
-    peer_elsewhere (change p) b m.peers (subst (λ x. same_address b x ≡ false) (sym (same p ∙ found-addr a m.peers p is)) other))
+turns_at-elsewhere a change m same b other = grind (arith, found-addr a m.peers, same, other, peer_elsewhere)

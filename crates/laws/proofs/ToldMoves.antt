@@ -7,7 +7,7 @@ use Rattle.laws.specs.Words.note
 use Rattle.laws.specs.Sound.{HasGivenId, IsOrderly}
 use Rattle.laws.specs.Stages.{stage_of_phase, stage_of, stage_at, stage_ended, causes_by, IsLateCause, IsOneEnd}
 use Rattle.laws.specs.Telling.{GoesOn, IsTold}
-use Rattle.laws.specs.InActions.{End, closes_in, ended_by, ends_in, dials_in, promoted_by_dial, dial_promotions_in, given_in, CountUp, AreAt, LeadTo, temp_of, temp_at, notes_in, noted, is_change, names_in, is_other_name, same_state}
+use Rattle.laws.specs.InActions.{End, closes_in, ended_by, ends_in, dials_in, promoted_by_dial, dial_promotions_in, given_in, LeadTo, temp_of, temp_at, notes_in, noted, is_change, names_in, is_other_name, same_state}
 use Rattle.laws.proofs.Addresses.{same_address-self, same_address-true}
 use Rattle.laws.proofs.Entries.{TurnsInto, one_has_id, has_own_id, turned-connections, gone-connections, with_new}
 use Rattle.laws.proofs.Failures.{changed-found}
@@ -54,14 +54,7 @@ record IsPlain (actions : List Action) : Type 0 where
 
 plain-told : (m : Machine) (effect : Effect) → IsPlain effect.actions → effect.moves ≡ [] → effect.machine.next_id ≡ m.next_id →
     ((addr : Addr) → LeadTo is_change noted (temp_at addr m) (notes_in addr effect.actions) (temp_at addr effect.machine)) → ((cid : ℕ) → GoesOn cid m effect) → IsTold m effect
-plain-told m effect plain none next_id peers each = record {
-  closes = plain.closes ∙ sym (ap ends_in none);
-  dials = plain.dials ∙ sym (ap dial_promotions_in none);
-  given = subst (λ ns. CountUp m.next_id ns effect.machine.next_id) (sym plain.given) (sym next_id);
-  addresses = subst (λ gs. AreAt gs effect.machine) (sym plain.given) tt;
-  peers = peers;
-  connections = each;
-}
+plain-told m effect plain none next_id peers each = grind (arith, plain, none, next_id, peers, each)
 
 -- ---- a connection turns
 
@@ -164,15 +157,12 @@ came-goes_on m new effect cid h id same none named = by_bool (has_id cid new.fac
     let here : m.next_id ≡ cid = sym id ∙ eqb-true new.facts.cid.0 cid own in
     let none_before : entry_at cid m ≡ None = subst (λ c. entry_at c m ≡ None) here (none-yet m h) in
     let not_given : nat_lt cid m.next_id ≡ false = grind (arith, here) in
+    let named_so = one_name cid new.facts.cid Terminated (name_of new.facts) own (named-stands new.facts) in
     went_on cid m effect None (Some new) none_before
-    (ap (entry_at cid) same ∙ find-push_here (λ x. has_id cid x.facts) new m.connections none_before own) none tt
-    (subst (λ names. LeadTo is_other_name same_state Terminated names (name_of new.facts)) (sym named)
-    (one_name cid new.facts.cid Terminated (name_of new.facts) own (named-stands new.facts)))
-    (subst (λ b. (if b then 5 else 0) ≤ stage_of_phase new.facts.phase) (sym not_given) (omega arith)))
+    (ap (entry_at cid) same ∙ find-push_here (λ x. has_id cid x.facts) new m.connections none_before own) none tt (rw named named_so) (rw not_given (omega arith)))
     (λ other.
     went_untold cid m effect (ap (entry_at cid) same ∙ find-push_other (λ x. has_id cid x.facts) new m.connections other) none
-    (named ∙ no_name cid new.facts.cid (name_of new.facts) other)
-    (subst (λ next. stage_at cid m ≤ stage_of (entry_at cid m) (nat_lt cid next)) (sym (ap (λ n. n.next_id) same)) (given_later (entry_at cid m) cid m.next_id)))
+    (named ∙ no_name cid new.facts.cid (name_of new.facts) other) (rw same (given_later (entry_at cid m) cid m.next_id)))
 
 -- it is admitted
 pub admits-told : (m : Machine) (new : Entry) (addr : Addr) → IsOrderly m → new.facts.cid.0 ≡ m.next_id → new.facts.addr ≡ addr →
@@ -213,12 +203,9 @@ no_note a other note apart = ap (λ c. (if c then note ∷ [] else []) ++ []) ap
 noting-told : (a : Addr) (m : Machine) (effect : Effect) → IsPlain effect.actions → ((cid : ℕ) → names_in cid effect.actions ≡ []) → effect.moves ≡ [] →
     effect.machine.connections ≡ m.connections → effect.machine.next_id ≡ m.next_id → LeadTo is_change noted (temp_at a m) (notes_in a effect.actions) (temp_at a effect.machine) →
     ((b : Addr) → same_address b a ≡ false → notes_in b effect.actions ≡ []) → ((b : Addr) → same_address b a ≡ false → peer_at b effect.machine ≡ peer_at b m) → IsTold m effect
-noting-told a m effect plain names none connections next_id here untold same = plain-told m effect plain none next_id
-    (λ b. by_bool (same_address b a) (λ c. LeadTo is_change noted (temp_at b m) (notes_in b effect.actions) (temp_at b effect.machine))
-    (λ is. subst (λ x. LeadTo is_change noted (temp_at x m) (notes_in x effect.actions) (temp_at x effect.machine)) (sym (same_address-true b a is)) here)
-    (λ other. subst (λ notes. LeadTo is_change noted (temp_at b m) notes (temp_at b effect.machine)) (sym (untold b other)) (ap temp_of (sym (same b other)))))
-    (λ cid. went_untold cid m effect (ap (find (λ e. has_id cid e.facts)) connections) none (names cid)
-    (subst (λ next. stage_at cid m ≤ stage_of (entry_at cid m) (nat_lt cid next)) (sym next_id) (omega arith)))
+noting-told a m effect plain names none connections next_id here untold same =
+    plain-told m effect plain none next_id (λ b. grind (arith, same_address-true b a, here, untold b, same b))
+    (λ cid. went_untold cid m effect (ap (find (λ e. has_id cid e.facts)) connections) none (names cid) (grind (arith, next_id)))
 
 pub turns_at-moves : (o : Option Peer) (change : Peer → Peer) (m : Machine) → (turns_at o change m).moves ≡ []
 turns_at-moves None change m = refl
@@ -235,18 +222,10 @@ turns_at-next (Some p) change m = refl
 -- a change that leaves the address
 pub changes-told : (a : Addr) (change : Peer → Peer) (m : Machine) → ((p : Peer) → (change p).addr ≡ p.addr) → IsTold m (peer_changes a change m)
 changes-told a change m same =
+    let goes : LeadTo is_change noted (temp_at a m) (notes_in a (peer_changes a change m).actions) (temp_of (option_map change (peer_at a m))) =
+    grind (arith, found-addr a m.peers, same_address-self a, noted_temp, is_temp, one_note, changes_temp) in
     noting-told a m (peer_changes a change m) (grind arith) (λ cid. grind arith) (turns_at-moves (peer_at a m) change m) (turns_at-connections (peer_at a m) change m)
-    (turns_at-next (peer_at a m) change m)
-    (subst (λ o. LeadTo is_change noted (temp_at a m) (notes_in a (peer_changes a change m).actions) (temp_of o)) (sym (changed-found a change m same)) (by_peer (peer_at a m) refl))
-    (λ b other. other_note b other (peer_at a m) refl) (turns_at-elsewhere a change m same)
-  where
-    by_peer : (o : Option Peer) → peer_at a m ≡ o → LeadTo is_change noted (temp_of o) (notes_in a (turns_at o change m).actions) (temp_of (option_map change o))
-    by_peer None is = refl
-    by_peer (Some p) is = grind (arith, found-addr a m.peers p is, same_address-self p.addr, noted_temp (change p).temp, is_temp, one_note, changes_temp)
-
-    other_note : (b : Addr) → same_address b a ≡ false → (o : Option Peer) → peer_at a m ≡ o → notes_in b (turns_at o change m).actions ≡ []
-    other_note b other None is = refl
-    other_note b other (Some p) is = grind (arith, found-addr a m.peers p is, same_turned b a other, no_note)
+    (turns_at-next (peer_at a m) change m) (grind (arith, changed-found a change m same, goes)) (λ b other. grind (arith, found-addr a m.peers, same_turned b a other, no_note)) (turns_at-elsewhere a change m same)
 
 -- ---- a peer comes and goes
 

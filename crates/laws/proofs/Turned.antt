@@ -1,7 +1,7 @@
 -- What becomes of the connection that a part of an event is about.
 use Rattle.std.proofs.Common.{ℕ, ◌+◌, ◌<◌, ◌≡◌, Bool, true, false, ◌&&◌, ◌==◌, if◌then◌else◌, find, Option, Some, None, Result, Ok, Err, refl, sym, ap, ◌∙◌, subst, eqb-true, arith}
 use Rattle.laws.proofs.Words.{cond_both, and_parts, false≢true}
-use Rattle.laws.specs.Words.{connected, agreed_inbound, agreed_outbound, acquired, released, awakened, idled, expired, has_id, is_acquirable, is_dialing, is_live, is_live_at, agreed_sharing, runs, Order, Ask, Forget, Promote, Release, Activate, Deactivate, verdict_of, answer_of, Verdict, message_of, Message, kind_of, CutFault, Item, same_address, CloseCause, Refused, Query, Fault, FaultKind, Protocol, Addr, Phase, Greeting, Negotiated, Kind, watched, Seen, with_entry, ending, vanishes, closing_entry, acquire, trim, release, awake, dial, dial_opens, dial_fails, fires_as, Effect, nothing_more, then_do, on_entry, closes, dialed, promoted_at, is_used_at, on_used, asks_peer, activates, carries_out, role_of, judged, decided, greets, Machine, Entry, entry_at, live_entry_at, own_info, peer_at, owing, paid, handled_in, handled, faulted, serves, begins, brings, Facts, is_used, on_connection}
+use Rattle.laws.specs.Words.{connected, agreed_inbound, agreed_outbound, acquired, released, awakened, idled, expired, has_id, is_acquirable, is_dialing, is_live, is_live_at, agreed_sharing, runs, Order, Ask, Forget, Promote, Release, Activate, Deactivate, verdict_of, answer_of, Verdict, message_of, Message, kind_of, CutFault, Item, same_address, CloseCause, Refused, Query, Fault, FaultKind, Protocol, Addr, Phase, Greeting, Negotiated, Kind, watched, Seen, with_entry, ending, vanishes, closing_entry, acquire, trim, release, dial, fires_as, Effect, then_do, on_entry, closes, dialed, promoted_at, is_used_at, on_used, asks_peer, activates, carries_out, role_of, judged, greets, Machine, Entry, entry_at, live_entry_at, own_info, peer_at, owing, paid, handled_in, handled, faulted, serves, begins, brings, Facts, is_used, on_connection}
 use Rattle.laws.specs.Words.verdict
 use Rattle.laws.specs.Words.kind
 use Rattle.laws.specs.Acts.{Act, fires_one, carries, ends_dial, stores, handles_item, ends_stream, is_closed, does}
@@ -118,13 +118,9 @@ fires-becomes sort e m = grind (arith, turned-becomes, gone-becomes, gone-none, 
 
 dialed-becomes : (opened : Bool) (e : Entry) (m : Machine) → entry_at e.facts.cid.0 m ≡ Some e →
     Becomes (Some (if is_dialing e.facts && opened then record e { facts = connected (m.now + m.settings.handshake) e.facts } else e)) e.facts.cid.0 (dialed opened e m).machine
-dialed-becomes opened e m is = by_tests (is_dialing e.facts) opened
-  where
-    by_tests : (b c : Bool) → Becomes (Some (if b && c then record e { facts = connected (m.now + m.settings.handshake) e.facts } else e)) e.facts.cid.0
-        (if b then (if c then dial_opens e m else dial_fails e m) else nothing_more m).machine
-    by_tests true true = turned-becomes e (record e { facts = connected (m.now + m.settings.handshake) e.facts }) m refl
-    by_tests true false = vanishes-becomes (Some e) e m
-    by_tests false c = stands-becomes e m is
+dialed-becomes opened e m is =
+    let opens = turned-becomes e (record e { facts = connected (m.now + m.settings.handshake) e.facts }) m refl in
+    grind (arith, opens, vanishes-becomes (Some e) e m, stands-becomes e m is)
 
 closes-becomes : (e : Entry) (m : Machine) → entry_at e.facts.cid.0 m ≡ Some e → Becomes (Some e) e.facts.cid.0 (closes e m).machine
 closes-becomes e m is = grind (arith, vanishes-becomes (Some e) e m, stands-becomes e m is)
@@ -147,8 +143,7 @@ greets-becomes item e m = greets-cases item e m (λ effect. Becomes (turned_by_m
     (λ fault. ending-becomes (turned_by_message (message_of item.body) e m) (Fault fault) e m)
     (λ msg is.
     let v : Verdict = verdict_of (role_of e.facts.provenance) (own_info m.settings) msg in
-    subst (λ o. Becomes (turned_by_message o e m) e.facts.cid.0 (decided v e m).machine) (sym is)
-    (subst (λ n. Becomes (turned_by_verdict v e m) e.facts.cid.0 (judged v e n).machine) (sym (answer-machine (answer_of v (own_info m.settings)) e.facts.cid m)) (judged-becomes v e m)))
+    rw (is, answer-machine (answer_of v (own_info m.settings)) e.facts.cid m) (judged-becomes v e m))
 
 -- ---- an item once the handshake is done
 
@@ -160,10 +155,8 @@ pub begins-becomes : (protocol : ℕ) (e : Entry) (m : Machine) → e.facts.cid.
 begins-becomes protocol e m given is =
     let new : Entry = record e { facts = awakened protocol e.facts } in
     let n : Machine = with_entry new m in
-    by_bool (runs protocol e.facts.running)
-    (λ b. Becomes (Some (if b then e else new)) e.facts.cid.0 (if b then nothing_more m else awake protocol e m).machine)
-    (λ running. stands-becomes e m is)
-    (λ silent. then-becomes (Some new) e.facts.cid.0 n (trim e.facts.cid n).machine given (turned-becomes e new m refl) (trim-walk nobody (Waited nobody) (waits-kept nobody) e.facts.cid n))
+    let awakes = then-becomes (Some new) e.facts.cid.0 n (trim e.facts.cid n).machine given (turned-becomes e new m refl) (trim-walk nobody (Waited nobody) (waits-kept nobody) e.facts.cid n) in
+    grind (arith, stands-becomes e m is, awakes)
 
 served-becomes : (seen : Seen) (protocol : ℕ) (e : Entry) (m : Machine) → e.facts.cid.0 < m.next_id → entry_at e.facts.cid.0 m ≡ Some e →
     Becomes (Some (stopped seen.done protocol (m.now + m.settings.idle) (begun protocol e))) e.facts.cid.0 (then_do (begins protocol e m) (on_connection e.facts.cid (serves seen protocol))).machine
@@ -243,8 +236,7 @@ promotes-becomes addr m e o =
     let place : FoundIn (λ x. has_id e.facts.cid.0 x.facts) m.connections e = find_some (λ x. has_id e.facts.cid.0 x.facts) m.connections e o.is in
     let live : is_live e.facts ≡ true = negotiated-live e.facts.phase (can_acquire e.facts free).negotiated in
     let found : live_entry_at addr m ≡ Some e = subst (λ a. live_entry_at a m ≡ Some e) (same_address-true e.facts.addr addr o.here) (live_here m e place.place o.ordered.orderly place.stands live) in
-    subst (λ x. Becomes (Some new) e.facts.cid.0 (promoted_at x addr m).machine) (sym found)
-    (subst (λ b. Becomes (Some new) e.facts.cid.0 (if b then acquire e m else dial addr m).machine) (sym free) (used_so (acquired e.facts) e m refl)))
+    rw (found, free) (used_so (acquired e.facts) e m refl))
     (λ other. by_option (live_entry_at addr m) (λ found. Becomes (Some e) e.facts.cid.0 (promoted_at found addr m).machine)
     (λ none. dials)
     (λ g at.

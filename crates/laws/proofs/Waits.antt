@@ -1,5 +1,5 @@
 -- How long is waited, and what is left as it was, through each change of a connection.
-use Rattle.std.proofs.Common.{ℕ, ◌+◌, ◌<◌, ◌≤◌, ◌≡◌, ◌⊎◌, Bool, true, false, not, ◌==◌, nat_lt, if◌then◌else◌, List, [], ◌∷◌, ◌++◌, filter, Option, Some, None, refl, sym, ap, subst, inl, arith, eqb-true}
+use Rattle.std.proofs.Common.{ℕ, ◌+◌, ◌<◌, ◌≤◌, ◌≡◌, ◌⊎◌, Bool, true, false, not, ◌==◌, nat_lt, if◌then◌else◌, List, [], ◌∷◌, ◌++◌, filter, Option, Some, None, refl, ap, subst, inl, arith, eqb-true}
 use Rattle.laws.proofs.Words.{find-append}
 use Rattle.laws.specs.Words.{nothing_undecoded, Peer, Kind, with_entry, without_entry, Machine, Entry, Owed, entry_at, reply_on, owing, paid}
 use Rattle.laws.specs.CarriedOut.{IsUnset}
@@ -8,7 +8,6 @@ use Rattle.laws.specs.Waits.{until_paid, until_of, until_in, length_of, IsWait}
 use Rattle.laws.proofs.Walk.{Scope}
 pub use Rattle.laws.proofs.Finds.{replaced, gone-found}
 use Rattle.laws.proofs.Finds.{found-filter}
-use Rattle.laws.proofs.Cases.{by_bool}
 
 -- ---- one wait
 
@@ -89,9 +88,7 @@ pub waits_gone : (scope : Scope) (m : Machine) (cid : ℕ) → Waits scope m (wi
 waits_gone scope m cid = record {
   unset = unchanged (without_entry cid m).connections m.peers m.next_id m;
   next = omega arith;
-  each = λ c. subst (GoesOn scope m c (entry_at c m)) (sym (gone-found c cid m.connections)) (by_bool (cid == c)
-      (λ b. GoesOn scope m c (entry_at c m) (if b then None else entry_at c m))
-      (λ is. record { waits = λ kind. tt; others = λ own given. tt; bytes = λ none given. tt }) (λ is. on_same scope m c (entry_at c m)));
+  each = λ c. grind (arith, gone-found c cid m.connections, on_same scope m c (entry_at c m));
 }
 
 pub waits_come : (scope : Scope) (m : Machine) (new : Entry) → new.facts.cid.0 ≡ m.next_id →

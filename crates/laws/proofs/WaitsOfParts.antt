@@ -1,7 +1,7 @@
 -- How long is waited, what is set, and what is left as it was, in each part of an event.
 use Rattle.std.proofs.Common.{ℕ, ◌+◌, ◌≡◌, ◌⊎◌, false, Option, Some, None, refl, sym, subst, inl, inr, arith}
 use Rattle.laws.proofs.Words.{both_ways}
-use Rattle.laws.specs.Words.{dialing, accepted, agreed_inbound, awakened, expired, Undecoded, CloseCause, Overwritten, Addr, Facts, Negotiated, Peer, Kind, entry_of, entered, new_peer, without_entry, lost, lost_by, ending, vanishes, closing_entry, dial, Effect, admitted, Machine, Entry, fresh_entry, peer_at, turns_at, peer_goes, owing, paid, Order}
+use Rattle.laws.specs.Words.{dialing, accepted, agreed_inbound, awakened, expired, Undecoded, CloseCause, Overwritten, Addr, Facts, Negotiated, Peer, entry_of, entered, new_peer, without_entry, lost, lost_by, ending, vanishes, closing_entry, dial, Effect, admitted, Machine, Entry, fresh_entry, peer_at, turns_at, peer_goes, owing, paid, Order}
 use Rattle.laws.specs.Words.kind
 use Rattle.laws.specs.Acts.{Act, carries, does}
 use Rattle.laws.specs.CarriedOut.{IsUnset, IsSet}
@@ -83,18 +83,10 @@ module _ (scope : Scope) where
   goes-waits e m n follows = waits_then scope m (without_entry e.facts.cid.0 m) n (waits_gone scope m e.facts.cid.0) follows
 
   pub dial-waits : (addr : Addr) (m : Machine) → Waited m (dial addr m)
-  dial-waits addr m = waits_come scope m (fresh_entry (dialing m.next_id addr)) refl nothing
-    where
-      nothing : (kind : Kind) → IsWait (m.now + length_of kind m.settings) None (until_of kind (fresh_entry (dialing m.next_id addr)))
-      nothing kind.Handshake = tt
-      nothing other = tt
+  dial-waits addr m = waits_come scope m (fresh_entry (dialing m.next_id addr)) refl (λ kind. grind arith)
 
   admitted-waits : (addr : Addr) (m : Machine) → Waited m (admitted addr m)
-  admitted-waits addr m = waits_come scope m (fresh_entry (accepted m.next_id addr (m.now + m.settings.handshake))) refl greeting
-    where
-      greeting : (kind : Kind) → IsWait (m.now + length_of kind m.settings) None (until_of kind (fresh_entry (accepted m.next_id addr (m.now + m.settings.handshake))))
-      greeting kind.Handshake = inr refl
-      greeting other = tt
+  admitted-waits addr m = waits_come scope m (fresh_entry (accepted m.next_id addr (m.now + m.settings.handshake))) refl (λ kind. grind arith)
 
   pub waits-kept : Kept scope Waited
   waits-kept = record {

@@ -2,9 +2,9 @@
 -- what stood before and what came of it that holds of each of these, and of one after the other, holds of the part.
 use Rattle.laws.proofs.ToldMoves.{turns_at-connections}
 use Rattle.laws.proofs.Finds.{replaced, gone-found}
-use Rattle.std.proofs.Common.{ℕ, ◌+◌, ◌%◌, ◌≡◌, Bool, true, false, ◌==◌, if◌then◌else◌, List, [], ◌∷◌, find, Option, Some, None, refl, sym, ap, ◌∙◌, subst, eqb-true, eq-eqb, arith}
+use Rattle.std.proofs.Common.{ℕ, ◌+◌, ◌%◌, ◌≡◌, Bool, true, false, ◌==◌, List, [], ◌∷◌, find, Option, Some, None, refl, sym, ap, ◌∙◌, subst, eqb-true, eq-eqb, arith}
 use Rattle.laws.proofs.Words.{cond_both, and_parts}
-use Rattle.laws.specs.Words.{connected, agreed_inbound, agreed_outbound, acquired, released, awakened, idled, expired, has_id, is_acquirable, is_dialing, is_live, is_live_at, runs, agreed_sharing, Order, Forget, Promote, verdict_of, answer_of, proposal_of, Verdict, kind_of, frame_of, CutFault, Item, same_address, Undecoded, Close, Send, Away, CloseCause, Unused, Pruned, Overwritten, Refused, Query, Fault, Protocol, HandshakeWait, ReplyWait, Addr, Agreed, Cid, Facts, Phase, Greeting, Negotiated, Peer, Cold, Warm, Hot, Kind, Reply, Seen, written_alive, written_request, Done, with_entry, entry_turns, entry_goes, ending, vanishes, closing_entry, is_used, acquire, trim, says_done, release, awake, dial, dial_opens, dial_fails, fires_as, Effect, Happened, shared, unused, gone, nothing_more, tells, then_do, as_move, on_entry, on_connection, turned_away, admitted, peer_connects, dialed, promoted_at, is_used_at, on_used, asks_peer, activates, deactivates, carries_out, role_of, sends_answer, judged, greets, Machine, Entry, entry_at, live_entry_at, own_info, peer_changes, peer_succeeds, peer_becomes, peer_was_asked, peer_comes, peer_goes, is_wanted_big, comes_big, owing, paid, sends_as_initiator, find_intersect, chain_sync_done, peer_sharing_done, handled_in, faulted, replies, stops_if, serves, begins, brings, talks, peer_is_ordinary, peer_at, without_entry}
+use Rattle.laws.specs.Words.{connected, agreed_inbound, agreed_outbound, acquired, released, awakened, idled, expired, has_id, is_acquirable, is_dialing, is_live, is_live_at, runs, agreed_sharing, Order, Forget, Promote, verdict_of, answer_of, proposal_of, Verdict, kind_of, frame_of, CutFault, Item, same_address, Undecoded, Close, Send, Away, CloseCause, Unused, Pruned, Overwritten, Refused, Query, Fault, Protocol, HandshakeWait, ReplyWait, Addr, Agreed, Cid, Facts, Phase, Greeting, Negotiated, Peer, Cold, Warm, Hot, Kind, Reply, Seen, written_alive, written_request, Done, with_entry, entry_turns, entry_goes, ending, vanishes, closing_entry, is_used, acquire, trim, says_done, release, awake, dial, dial_opens, fires_as, Effect, Happened, shared, unused, gone, nothing_more, tells, then_do, as_move, on_entry, on_connection, turned_away, admitted, peer_connects, dialed, promoted_at, is_used_at, on_used, asks_peer, activates, deactivates, carries_out, role_of, sends_answer, judged, greets, Machine, Entry, entry_at, live_entry_at, own_info, peer_changes, peer_succeeds, peer_becomes, peer_was_asked, peer_comes, peer_goes, is_wanted_big, comes_big, owing, paid, sends_as_initiator, find_intersect, chain_sync_done, peer_sharing_done, handled_in, faulted, replies, stops_if, serves, begins, brings, talks, peer_is_ordinary, peer_at, without_entry}
 use Rattle.laws.specs.Words.verdict
 use Rattle.laws.specs.Words.kind
 use Rattle.laws.specs.Words.reply
@@ -332,11 +332,9 @@ module _ (scope : Scope) (R : Machine → Effect → Type 0) (kept : Kept scope 
   -- it goes by itself where the dial has failed
   pub dialed-walk : (opened : Bool) (e : Entry) (m : Machine) → scope.sends ≡ true → Stands scope e m →
       (is_dialing e.facts ≡ true → opened ≡ false → scope.goes e.facts.cid.0 ≡ true) → R m (dialed opened e m)
-  dialed-walk opened e m may stands itself = cond_both (is_dialing e.facts) (if opened then dial_opens e m else dial_fails e m) (nothing_more m) (R m)
-      (λ dials. cond_both opened (dial_opens e m) (dial_fails e m) (R m)
-      (λ open_. opens-walk e m (record { may = may; found = stands.found; own = stands.own; live = grind (arith, dials) }))
-      (λ fails. kept.when_moved (gone e.facts.cid.0) m (vanishes e m) refl (kept.when_gone e m (itself dials fails))))
-      (λ other. kept.when_nothing m)
+  dialed-walk opened e m may stands itself =
+      let opens : is_dialing e.facts ≡ true → R m (dial_opens e m) = λ dials. opens-walk e m (record { may = may; found = stands.found; own = stands.own; live = grind (arith, dials) }) in
+      grind (arith, opens, kept.when_moved (gone e.facts.cid.0) m (vanishes e m) refl, kept.when_gone e m, itself, kept.when_nothing m)
 
   -- ---- an item in the handshake
 

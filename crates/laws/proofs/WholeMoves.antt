@@ -1,9 +1,9 @@
 -- The moves of connections in the whole machine: what each keeps, and by how much it may raise the counted ones.
 use Rattle.std.proofs.Common.{ℕ, ◌+◌, ◌%◌, ◌≤◌, ◌≡◌, Bool, true, false, ◌||◌, nat_le, ◌==◌, if◌then◌else◌, count_by, Option, Some, None, is_some, subst, refl, sym, ap, ◌∙◌, arith}
 use Rattle.laws.proofs.Words.{cond_both, and_from, false≢true}
-use Rattle.laws.specs.Words.{CloseCause, Overwritten, Agreed, Cid, Facts, Undecoded, Grace, Off, ForRemote, ForLocal, Phase, Dialing, Greeting, Negotiated, Peer, Warm, Version, settings_tests, failed_peer, connected, agreed_inbound, agreed_outbound, acquired, released, awakened, idled, agreed_sharing, is_pending, opening_phase, is_negotiated, is_negotiated_phase, is_dialing, is_dialing_phase, is_greeting, is_greeting_phase, live_phase, is_outbound, is_for_remote, some_runs, is_acquirable, is_live, Machine, Entry, live_entry_at, nothing_more, peer_at, peer_fails, peer_succeeds, reply_on, owing, paid, is_owed_on, with_entry, without_entry, is_missed, lost, lost_by, ending, vanishes, is_used, is_agreed_inbound, is_agreed_outbound, acquire, idle, grace_deadlines, Effect}
+use Rattle.laws.specs.Words.{CloseCause, Overwritten, Agreed, Cid, Facts, Undecoded, Grace, Off, ForRemote, ForLocal, Phase, Dialing, Greeting, Negotiated, Peer, Warm, Version, settings_tests, failed_peer, connected, agreed_inbound, agreed_outbound, acquired, released, awakened, idled, agreed_sharing, is_pending, opening_phase, is_negotiated, is_negotiated_phase, is_dialing, is_dialing_phase, is_greeting, is_greeting_phase, live_phase, is_outbound, is_for_remote, some_runs, is_acquirable, is_live, Machine, Entry, live_entry_at, nothing_more, peer_at, peer_fails, peer_succeeds, reply_on, owing, paid, is_owed_on, with_entry, without_entry, is_missed, lost, lost_by, ending, vanishes, is_used, is_agreed_inbound, is_agreed_outbound, acquire, idle, grace_deadlines}
 use Rattle.laws.specs.AtMoves.{IsReady}
-use Rattle.laws.specs.Steady.{IsShaped, IsUnused, AreTied, TiedBy, IsTied, IsOwing, IsOrdered}
+use Rattle.laws.specs.Steady.{IsShaped, IsUnused, TiedBy, IsTied, IsOwing, IsOrdered}
 use Rattle.laws.proofs.Counts.{counted_of, late_of, one_if_counted, is_late, grace_late_of}
 use Rattle.laws.proofs.Effects.{at_most_one, one_if-counted, one_if-not_counted, counted-connected, counted-greeting, counted-agreed_outbound, fewer-acquired, counted-running, phase_late_of, owed_late, late-fewer, ahead, phase-ahead, remote-ahead, local-ahead, owing-fewer, paid-fewer}
 use Rattle.laws.proofs.Entries.{TurnsInto}
@@ -56,11 +56,8 @@ lost-ties m e k h s ties =
     let shape : IsShaped e.facts = stands-shaped m e k h s in
     cond_both (is_missed e.facts) (peer_fails e.facts.addr n) (nothing_more n) (λ effect. IsTied effect.machine)
     (λ missed.
-    let live : is_live e.facts ≡ true = missed-live e.facts shape missed in
-    let none : live_entry_at e.facts.addr n ≡ None = gone_here m e k h.orderly s live in
-    changed-ties e.facts.addr (failed_peer n.now n.settings.backoff) m n (λ p. refl) refl refl (gone_elsewhere m e k h.orderly s)
-    (λ no_peer alone. subst (λ o. TiedBy m.now None o) (sym none) tt)
-    (λ p found tie. subst (λ o. TiedBy m.now (Some (failed_peer n.now n.settings.backoff p)) o) (sym none) refl) ties)
+    let none : live_entry_at e.facts.addr n ≡ None = gone_here m e k h.orderly s (missed-live e.facts shape missed) in
+    changed-ties e.facts.addr (failed_peer n.now n.settings.backoff) m n (λ p. refl) refl refl (gone_elsewhere m e k h.orderly s) (grind (arith, none)) (grind (arith, none)) ties)
     (λ other. gone-ties m e k h.orderly s (λ live. not_missed-unused e.facts other) ties)
 
 -- it is ended or has vanished, and its peer fails where it is missed
@@ -69,10 +66,8 @@ gone_lost-keeps : (m : Machine) (e : Entry) (k : ℕ) → IsOrdered m → Stands
 gone_lost-keeps m e k h s =
     let n : Machine = without_entry e.facts.cid.0 m in
     let goes : Moves 0 m n = goes-moves m e k h s in
-    moves-keeps 0 m (lost e.facts n).machine (moves_then 0 0 m n (lost e.facts n).machine goes
-    (cond_both (is_missed e.facts) _ _ (λ (effect : Effect). Moves 0 n effect.machine)
-    (λ missed. changes-moves e.facts.addr (failed_peer n.now n.settings.backoff) n (λ p. refl) (λ p ordinary. ordinary) goes.ordered) (λ other. moves_nothing n goes.ordered)))
-    (lost-ties m e k h s)
+    let fails = changes-moves e.facts.addr (failed_peer n.now n.settings.backoff) n (λ p. refl) (λ p ordinary. ordinary) goes.ordered in
+    moves-keeps 0 m (lost e.facts n).machine (moves_then 0 0 m n (lost e.facts n).machine goes (grind (arith, fails, moves_nothing n goes.ordered))) (lost-ties m e k h s)
 
 -- a cause for which a peer fails
 abbrev pub IsLost : CloseCause → Type 0
@@ -173,11 +168,10 @@ used-keeps f m e k h s u =
     let owed : owed_late m.now f.cid new.owed ≤ owed_late m.now f.cid e.owed =
     owing-fewer m.now f.cid (record { protocol = 8; until = m.now + m.settings.reply; asked = cookie }) e.owed (reply-ahead m h) in
     let same : owed_late m.now f.cid e.owed ≡ owed_late m.now e.facts.cid e.owed = ap (λ c. owed_late m.now c e.owed) u.cid in
-    let fewer = u.fewer in
     let turns : TurnsInto e new = record { same_id = u.cid; same_addr = u.addr; live = λ l. u.was_live } in
     let turned : Moves 0 m n = turns-moves 0 m e new k h s turns u.shaped
     (owing-owing 8 cookie m (record e { facts = f }) refl u.local (λ on_10. absurd (false≢true on_10))
-    (nothing-owing (record e { facts = f }) ((stands-owing m e k h s).used u.unused))) (omega (arith, fewer))
+    (nothing-owing (record e { facts = f }) ((stands-owing m e k h s).used u.unused))) (let fewer = u.fewer in omega (arith, fewer))
     (late-fewer m.now e new u.phase u.grace (omega (arith, owed, same))) in
     let warm : Peer → Peer = λ p. record p { temp = Warm; failures = 0 } in
     let here : live_entry_at e.facts.addr n ≡ Some new =
@@ -187,12 +181,7 @@ used-keeps f m e k h s u =
     (moves-keeps 0 m (peer_succeeds e.facts.addr n).machine
     (moves_then 0 0 m n (peer_succeeds e.facts.addr n).machine turned (changes-moves e.facts.addr warm n (λ p. refl) (λ p ordinary. ordinary) turned.ordered))
     (changed-ties e.facts.addr warm m n (λ p. refl) refl refl (turned_elsewhere m e new k h.orderly s turns)
-    (λ none alone. absurd (u.ready None none (subst (λ o. TiedBy m.now None o) was alone)))
-    (λ p found tie. subst (λ o. TiedBy m.now (Some (warm p)) o) (sym here)
-    (in_use new p u.local (u.ready (Some p) found (subst (λ o. TiedBy m.now (Some p) o) was tie))))))
-  where
-    in_use : (new : Entry) (p : Peer) → new.facts.local ≡ true → p.not_before ≤ m.now → AreTied m.now (record p { temp = Warm; failures = 0 }) new
-    in_use new p local ready = record { established = sym local; in_use = λ l. ready; on_its_way = λ w. ready; asked = λ a. refl }
+    (λ none alone. grind (arith, was, alone, u.ready None)) (λ p found tie. grind (arith, here, was, tie, u.local, u.ready (Some p) found))))
 
 -- this node takes a connection that stands into use
 pub acquire-keeps : (m : Machine) (e : Entry) (k : ℕ) → IsOrdered m → StandsAt m.connections k e → is_acquirable e.facts ≡ true →
@@ -315,12 +304,7 @@ IsWarm (Some p) = p.temp ≡ Warm
 pub asks_warm-keeps : (asked : ℕ) (m : Machine) (e : Entry) (k : ℕ) → IsOrdered m → StandsAt m.connections k e → e.facts.local ≡ true →
     IsWarm (peer_at e.facts.addr m) → Keeps 0 m (with_entry (owing 2 asked m e) m)
 asks_warm-keeps asked m e k h s local warm =
-    owed-keeps 2 asked m e k h s (record { known = refl; local = local; sharing = λ on_10. absurd (false≢true on_10) })
-    (λ o is tie. by_peer o (subst IsWarm is warm) tie)
-  where
-    by_peer : (o : Option Peer) → IsWarm o → TiedBy m.now o (Some e) → TiedBy m.now o (Some (owing 2 asked m e))
-    by_peer None warm tie = elim warm [ ]
-    by_peer (Some p) warm tie = record { established = tie.established; in_use = tie.in_use; on_its_way = tie.on_its_way; asked = λ a. warm }
+    owed-keeps 2 asked m e k h s (record { known = refl; local = local; sharing = λ on_10. absurd (false≢true on_10) }) (λ o is tie. grind (arith, is, warm, tie))
 
 -- what is not decoded is no matter of the counts
 pub decodes-keeps : (undecoded : Undecoded) (m : Machine) (e : Entry) (k : ℕ) → IsOrdered m → StandsAt m.connections k e →
