@@ -1,10 +1,10 @@
 -- Who connects is let in, or turned away for the first cause that stands.
-use Rattle.std.proofs.Common.{◌+◌, ◌≡◌, Bool, true, false, ◌&&◌, ◌||◌, if◌then◌else◌, List, [], ◌∷◌, find, cond, Option, Some, None, All, refl, sym, ap, ◌∙◌, subst, arith}
+use Rattle.std.proofs.Common.{◌+◌, ◌≡◌, Bool, true, false, ◌&&◌, if◌then◌else◌, List, [], ◌∷◌, find, Option, Some, None, All, refl, sym, ap, ◌∙◌, subst, arith}
 use Rattle.laws.proofs.Words.{both_ways, and_parts, false_from_ne_true, list_any_none, All-weaker}
 use Rattle.laws.specs.Words.{list_any, accepted, is_live, is_live_at, is_pending, same_address, address_below, Away, OwnAddr, Crossed, Overwritten, Addr, Facts, ending, then_do, turned_away, admitted, accepted_beside, peer_connects, Machine, Entry, fresh_entry, live_entry_at}
 use Rattle.net_base.specs.declared.action.Away.TheVariants.{Full, Present}
-use Rattle.laws.specs.Acts.{Act, asks_for_roots, connects, does}
-use Rattle.laws.specs.Admitted.{admitted_by, turned_away_by, is_crossing, is_present, cause_against, IsTurnedAway, IsNew, IsLetIn, ByCause, AdmitsRight}
+use Rattle.laws.specs.Acts.{Act, does}
+use Rattle.laws.specs.Admitted.{is_crossing, is_present, cause_against, IsTurnedAway, IsNew, IsLetIn, ByCause, AdmitsRight}
 use Rattle.laws.specs.AtMoves.{OnEntry}
 use Rattle.laws.specs.Sound.{IsOrderly}
 use Rattle.laws.specs.Parts.{IsNext}
@@ -14,7 +14,6 @@ use Rattle.laws.proofs.Silent.{admitted-deaf, turned_away-deaf, part-silent, ask
 use Rattle.laws.proofs.ToldMoves.{new-found}
 use Rattle.laws.proofs.Ties.{live_one}
 use Rattle.laws.proofs.Walk.{Finds}
-use Rattle.laws.proofs.Cases.{by_bool}
 
 -- ---- what is found is what there is
 
@@ -25,13 +24,10 @@ passes_of q (Some e) = q e
 -- where at most one passes a test, whatever passes a stricter one is it
 any-found : (p q : Entry → Bool) → ((e : Entry) → q e ≡ true → p e ≡ true) → (es : List Entry) → OnePasses p es → list_any q es ≡ passes_of q (find p es)
 any-found p q only [] one = refl
-any-found p q only (x ∷ es) one = by_bool (p x)
-    (λ b. list_any q es ≡ passes_of q (find p es) → (q x || list_any q es) ≡ passes_of q (cond b (Some x) (find p es)))
-    (λ here rest.
-    let none : All (λ e. q e ≡ false) es = All-weaker (λ e. p e ≡ false) (λ e. q e ≡ false) (λ e fails. false_from_ne_true (q e) (λ is. both_ways (p e) fails (only e is))) es
-    (OnePasses-none_after p x es one here) in
-    grind (arith, list_any_none q es none))
-    (λ other rest. grind (arith, rest, other, only x)) (any-found p q only es (OnePasses-tail p x es one))
+any-found p q only (x ∷ es) one =
+    let none : p x ≡ true → All (λ e. q e ≡ false) es = λ here.
+    All-weaker (λ e. p e ≡ false) (λ e. q e ≡ false) (λ e fails. false_from_ne_true (q e) (λ is. both_ways (p e) fails (only e is))) es (OnePasses-none_after p x es one here) in
+    grind (arith, none, list_any_none q es, only x, any-found p q only es (OnePasses-tail p x es one))
 
 pub pending-live : (f : Facts) → is_pending f ≡ true → is_live f ≡ true
 pending-live f pending = grind (arith, pending)
@@ -40,8 +36,7 @@ pending-at : (addr : Addr) (e : Entry) → (same_address e.facts.addr addr && is
 pending-at addr e h = grind (arith, h, pending-live e.facts)
 
 crossing-found : (addr : Addr) (m : Machine) → IsOrderly m → is_crossing addr m ≡ passes_of (λ e. same_address e.facts.addr addr && is_pending e.facts) (live_entry_at addr m)
-crossing-found addr m h =
-    any-found (λ e. is_live_at addr e.facts) (λ e. same_address e.facts.addr addr && is_pending e.facts) (pending-at addr) m.connections (live_one addr m h.addresses)
+crossing-found addr m h = grind (arith, any-found, pending-at, live_one)
 
 present-found : (addr : Addr) (m : Machine) → IsOrderly m → is_present addr m ≡ passes_of (λ e. is_live_at addr e.facts) (live_entry_at addr m)
 present-found addr m h = any-found (λ e. is_live_at addr e.facts) (λ e. is_live_at addr e.facts) (λ e is. is) m.connections (live_one addr m h.addresses)
@@ -74,10 +69,7 @@ away cause m = record { told = refl; admitted = refl; same = refl }
 by_live : (addr : Addr) (m : Machine) → IsOrderly m → (o : Option Entry) → live_entry_at addr m ≡ o →
     ByCause (if is_crossing addr m then (if address_below addr m.settings.own then None else Some Crossed) else (if is_present addr m then Some Present else None))
     addr m (accepted_beside o addr m)
-by_live addr m h None is =
-    let alone : is_crossing addr m ≡ false = crossing-found addr m h ∙ ap (passes_of (λ e. same_address e.facts.addr addr && is_pending e.facts)) is in
-    let absent : is_present addr m ≡ false = present-found addr m h ∙ ap (passes_of (λ e. is_live_at addr e.facts)) is in
-    rw (alone, absent) (let-in addr m h)
+by_live addr m h None is = grind (arith, crossing-found, present-found, let-in)
 by_live addr m h (Some e) is =
     let at = find_some (λ x. is_live_at addr x.facts) m.connections e is in
     let here = (and_parts (same_address e.facts.addr addr) (is_live e.facts) at.passes).0 in
@@ -93,9 +85,4 @@ connects-admits addr m h =
 -- ---- nothing else
 
 pub admits-right : (act : Act) (m : Machine) → IsNext act m → Finds act m → AdmitsRight act m (does act m)
-admits-right (connects addr) m next found = connects-admits addr m found
-admits-right asks_for_roots m next found = record { admitted = asks-silent admitted_by (λ job. refl) m; turned_away = asks-silent turned_away_by (λ job. refl) m }
-admits-right other m next found = record {
-  admitted = part-silent admitted_by admitted-deaf (λ cid bytes. refl) other m tt next found;
-  turned_away = part-silent turned_away_by turned_away-deaf (λ cid bytes. refl) other m tt next found;
-}
+admits-right act m next found = grind (arith, asks-silent, connects-admits, part-silent, admitted-deaf, turned_away-deaf)

@@ -1,31 +1,29 @@
 -- On the connection that a part is about a wait begins, goes on and ends exactly where it is to.
-use Rattle.std.proofs.Common.{ℕ, ◌+◌, ◌%◌, ◌≡◌, Bool, true, false, not, ◌&&◌, ◌||◌, ◌==◌, if◌then◌else◌, find, Option, Some, None, Result, Ok, Err, refl, sym, ap, ◌∙◌, subst, eq-eqb, eqb-true, []}
+use Rattle.std.proofs.Common.{ℕ, ◌+◌, ◌≡◌, Bool, true, false, not, ◌&&◌, ◌||◌, if◌then◌else◌, Option, Some, None, Result, Ok, Err, refl, sym, ap, ◌∙◌, subst, eq-eqb, eqb-true, [], arith}
 use Rattle.laws.proofs.Words.{false≢true, and_right}
-use Rattle.laws.specs.Words.{agreed_inbound, agreed_outbound, awakened, connected, expired, released, has_id, is_acquirable, is_dialing_phase, is_for_remote, is_greeting_phase, is_live, is_negotiated, runs, some_runs, with_responder, agreed_sharing, Order, Ask, Promote, Release, Activate, verdict_of, Verdict, message_of, Message, Item, FaultKind, Agreed, Off, ForRemote, ForLocal, Phase, Dialing, Greeting, Negotiated, Deadline, Kind, watched, Seen, closing_entry, fires_as, fires, on_entry, role_of, Machine, Entry, entry_at, own_info, owing, paid}
-use Rattle.laws.specs.Words.verdict
+use Rattle.laws.specs.Words.{agreed_inbound, agreed_outbound, awakened, connected, expired, released, has_id, is_dialing_phase, is_for_remote, is_live, is_negotiated, some_runs, agreed_sharing, Order, verdict_of, Verdict, Message, Item, FaultKind, Agreed, Off, Phase, Greeting, Negotiated, Deadline, Kind, watched, Seen, closing_entry, fires_as, fires, on_entry, role_of, Machine, Entry, entry_at, own_info, owing, paid}
 use Rattle.laws.specs.Words.kind
 use Rattle.laws.specs.Acts.{Act, fires_one, carries, ends_dial, stores, handles_item, ends_stream, is_closed, does}
-use Rattle.laws.specs.Begun.{is_kind, is_reply_on, begun_where, ended_where, wait_fired, wait_ordered, wait_agreed, wait_asked, wait_handled, wait_after, WhereStays, WaitsBegin}
+use Rattle.laws.specs.Begun.{is_kind, is_reply_on, begun_where, ended_where, wait_fired, wait_ordered, wait_agreed, wait_asked, wait_handled, wait_after, WaitsBegin}
 use Rattle.laws.specs.Moments.{IsOverAfter}
 use Rattle.laws.specs.Parts.{IsNext}
 use Rattle.laws.specs.Untouched.{is_about, IsAsItWas}
-use Rattle.laws.specs.Waits.{until_gone, until_unused, until_paid, until_of, until_in, until_at}
+use Rattle.laws.specs.Waits.{until_unused, until_of, until_in, until_at}
 use Rattle.laws.specs.Steady.{IsShaped, IsOwing, IsOrdered}
-use Rattle.laws.proofs.Lists.{FoundIn, find_some, All-stands}
+use Rattle.laws.proofs.Lists.{find_some}
 use Rattle.laws.proofs.Shapes.{greeting-unnegotiated}
 use Rattle.laws.proofs.Talks.{seen-known, woken-runs, runs-some}
 use Rattle.laws.proofs.Turned.{turned_by_kind, turned_by_order, turned_by_verdict, turned_by_message, begun, stopped, turned_by_request, turned_by_item, turned, part-becomes}
 use Rattle.laws.proofs.Waits.{owing-until, paid-until}
 use Rattle.laws.proofs.Walk.{Finds, taken}
 use Rattle.laws.proofs.WholeMoves.{negotiated-live}
-use Rattle.laws.proofs.Cases.{by_bool, by_option}
+use Rattle.laws.proofs.Cases.{by_option}
 
 -- ---- a deadline
 
 -- who has a grace has done its handshake
 graced-negotiated : (e : Entry) (until : ℕ) → IsShaped e.facts → until_unused e.facts.grace ≡ Some until → is_negotiated e.facts ≡ true
-graced-negotiated e until h waits = by_bool (is_negotiated e.facts) (λ b. b ≡ true)
-    (λ is. refl) (λ is. let never : None ≡ Some until = sym (ap until_unused (h.unused is).grace) ∙ waits in absurd cc)
+graced-negotiated e until h waits = grind arith
 
 expired-waits : (e : Entry) (m : Machine) → is_live e.facts ≡ true → (sort : Kind) →
     until_of sort (record e { facts = expired e.facts }) ≡ wait_fired kind.Grace sort e (record e { facts = expired e.facts }) m
@@ -34,31 +32,19 @@ expired-waits e m live other = rw live refl
 
 -- nothing is owed on one that nobody uses
 closed-waits : (e : Entry) (m : Machine) → e.owed ≡ [] → (sort : Kind) → until_of sort (closing_entry m e) ≡ wait_fired kind.Grace sort e (closing_entry m e) m
-closed-waits e m none kind.Reply2 = ap (λ os. until_paid (find (λ o. o.protocol == 2) os)) none
-closed-waits e m none kind.Reply8 = ap (λ os. until_paid (find (λ o. o.protocol == 8) os)) none
-closed-waits e m none kind.Reply10 = ap (λ os. until_paid (find (λ o. o.protocol == 10) os)) none
-closed-waits e m none other = refl
+closed-waits e m none sort = grind arith
 
 fired-waits : (fired : Kind) (until : ℕ) (e f : Entry) (m : Machine) → IsShaped e.facts → IsOwing e → until_of fired e ≡ Some until → turned_by_kind fired e m ≡ Some f →
     (sort : Kind) → until_of sort f ≡ wait_fired fired sort e f m
-fired-waits kind.Grace until e f m shape owing_ waits is sort = by_bool e.facts.local
-    (λ b. Some (if b then record e { facts = expired e.facts } else closing_entry m e) ≡ Some f → until_of sort f ≡ wait_fired kind.Grace sort e f m)
-    (λ local same.
-    let it : record e { facts = expired e.facts } ≡ f = cc in
-    subst (λ x. until_of sort x ≡ wait_fired kind.Grace sort e x m) it
-    (expired-waits e m (negotiated-live e.facts.phase (graced-negotiated e until shape waits)) sort))
-    (λ unused same.
-    let it : closing_entry m e ≡ f = cc in
-    subst (λ x. until_of sort x ≡ wait_fired kind.Grace sort e x m) it (closed-waits e m (owing_.used unused) sort)) is
+fired-waits kind.Grace until e f m shape owing_ waits is sort =
+    let negotiated = negotiated-live e.facts.phase (graced-negotiated e until shape waits) in
+    grind (arith, expired-waits e m negotiated sort, closed-waits e m, owing_.used)
 fired-waits other until e f m shape owing_ waits is sort = absurd cc
 
 -- ---- what is asked
 
 owes-waits : (protocol asked : ℕ) (e : Entry) (m : Machine) (sort : Kind) → until_of sort (owing protocol asked m e) ≡ begun_where (is_reply_on protocol sort) sort e m
-owes-waits protocol asked e m kind.Reply2 = owing-until 2 protocol asked m e
-owes-waits protocol asked e m kind.Reply8 = owing-until 8 protocol asked m e
-owes-waits protocol asked e m kind.Reply10 = owing-until 10 protocol asked m e
-owes-waits protocol asked e m other = refl
+owes-waits protocol asked e m sort = grind (arith, owing-until)
 
 owes_where-waits : (b : Bool) (protocol asked : ℕ) (e : Entry) (m : Machine) (sort : Kind) →
     until_of sort (if b then owing protocol asked m e else e) ≡ begun_where (b && is_reply_on protocol sort) sort e m
@@ -70,74 +56,35 @@ owes_where-waits false protocol asked e m sort = refl
 released-waits : (e : Entry) (m : Machine) (sort : Kind) →
     until_of sort (record e { facts = released (m.now + m.settings.idle) e.facts })
     ≡ begun_where (not (some_runs e.facts.running || is_for_remote e.facts.grace) && is_kind kind.Grace sort) sort e m
-released-waits e m kind.Grace = by_bool (some_runs e.facts.running || is_for_remote e.facts.grace)
-    (λ b. until_unused (if b then e.facts.grace else ForLocal (m.now + m.settings.idle)) ≡ begun_where (not b && true) kind.Grace e m) (λ is. refl) (λ is. refl)
+released-waits e m kind.Grace = grind arith
 released-waits e m other = rw (and_right (not (some_runs e.facts.running || is_for_remote e.facts.grace)) false refl) refl
 
 taken-waits : (e : Entry) (m : Machine) (sort : Kind) → until_of sort (taken (record e.facts { local = true }) e m) ≡ begun_where (is_reply_on 8 sort) sort e m
-taken-waits e m kind.Reply2 = owing-until 2 8 (e.facts.cid.0 % 65536) m e
-taken-waits e m kind.Reply8 = owing-until 8 8 (e.facts.cid.0 % 65536) m e
-taken-waits e m kind.Reply10 = owing-until 10 8 (e.facts.cid.0 % 65536) m e
-taken-waits e m other = refl
+taken-waits e m sort = grind (arith, owing-until)
 
 ordered-waits : (order : Order) (e : Entry) (m : Machine) (sort : Kind) → until_of sort (turned_by_order order e m) ≡ wait_ordered order sort e m
-ordered-waits (Ask addr n) e m sort = owes_where-waits e.facts.local 10 n e m sort
-ordered-waits (Promote addr) e m sort = by_bool (is_acquirable e.facts)
-    (λ b. until_of sort (if b then taken (record e.facts { local = true }) e m else e) ≡ begun_where (b && is_reply_on 8 sort) sort e m)
-    (λ is. taken-waits e m sort) (λ is. refl)
-ordered-waits (Release addr) e m sort =
-    let kept : Bool = some_runs e.facts.running || is_for_remote e.facts.grace in
-    by_bool e.facts.local
-    (λ b. until_of sort (if b then record e { facts = released (m.now + m.settings.idle) e.facts } else e) ≡ begun_where (b && not kept && is_kind kind.Grace sort) sort e m)
-    (λ is. released-waits e m sort) (λ is. refl)
-ordered-waits (Activate addr) e m sort = owes_where-waits e.facts.local 2 0 e m sort
-ordered-waits other e m sort = refl
+ordered-waits order e m sort = grind (arith, taken-waits, released-waits, owes_where-waits, taken)
 
 -- ---- the end of a dial
 
 dialed-waits : (opened : Bool) (e : Entry) (m : Machine) (sort : Kind) →
     until_of sort (if is_dialing_phase e.facts.phase && opened then record e { facts = connected (m.now + m.settings.handshake) e.facts } else e)
     ≡ begun_where (is_dialing_phase e.facts.phase && opened && is_kind kind.Handshake sort) sort e m
-dialed-waits opened e m sort = by_phase e.facts.phase refl opened
-  where
-    opens : (k : Kind) → e.facts.phase ≡ Dialing → until_of k (record e { facts = connected (m.now + m.settings.handshake) e.facts }) ≡ begun_where (is_kind kind.Handshake k) k e m
-    opens kind.TimeWait is = sym (ap until_gone is)
-    opens other is = refl
-
-    by_phase : (p : Phase) → e.facts.phase ≡ p → (b : Bool) →
-        until_of sort (if is_dialing_phase p && b then record e { facts = connected (m.now + m.settings.handshake) e.facts } else e)
-        ≡ begun_where (is_dialing_phase p && b && is_kind kind.Handshake sort) sort e m
-    by_phase Dialing is true = opens sort is
-    by_phase Dialing is false = refl
-    by_phase other is b = refl
+dialed-waits opened e m sort = grind arith
 
 -- ---- the handshake
 
 -- nobody uses a connection before its handshake is done
 agreed_inbound-waits : (agreed : Agreed) (e : Entry) (m : Machine) → e.facts.local ≡ false → (sort : Kind) →
     until_of sort (record e { facts = agreed_inbound agreed (m.now + m.settings.idle) e.facts }) ≡ wait_agreed sort e (record e { facts = agreed_inbound agreed (m.now + m.settings.idle) e.facts }) m
-agreed_inbound-waits agreed e m unused kind.Grace = rw unused refl
-agreed_inbound-waits agreed e m unused kind.Reply8 = rw unused refl
-agreed_inbound-waits agreed e m unused other = refl
+agreed_inbound-waits agreed e m unused sort = grind arith
 
 agreed_outbound-waits : (agreed : Agreed) (e : Entry) (m : Machine) (sort : Kind) →
     until_of sort (taken (agreed_outbound agreed (m.now + m.settings.idle) e.facts) e m) ≡ wait_agreed sort e (taken (agreed_outbound agreed (m.now + m.settings.idle) e.facts) e m) m
-agreed_outbound-waits agreed e m kind.Grace = by_bool agreed.initiator_only
-    (λ b. until_unused (if b then Off else ForRemote (m.now + m.settings.idle)) ≡ (if true && not (not b) then None else Some (m.now + m.settings.idle)))
-    (λ is. refl) (λ is. refl)
-agreed_outbound-waits agreed e m kind.Reply2 = owing-until 2 8 (e.facts.cid.0 % 65536) m e
-agreed_outbound-waits agreed e m kind.Reply8 = owing-until 8 8 (e.facts.cid.0 % 65536) m e
-agreed_outbound-waits agreed e m kind.Reply10 = owing-until 10 8 (e.facts.cid.0 % 65536) m e
-agreed_outbound-waits agreed e m other = refl
+agreed_outbound-waits agreed e m sort = grind (arith, owing-until)
 
 verdict-waits : (v : Verdict) (e f : Entry) (m : Machine) → e.facts.local ≡ false → turned_by_verdict v e m ≡ Some f → (sort : Kind) → until_of sort f ≡ wait_agreed sort e f m
-verdict-waits (verdict.Accept agreed) e f m unused is sort =
-    let it : record e { facts = agreed_inbound agreed (m.now + m.settings.idle) e.facts } ≡ f = cc in
-    subst (λ x. until_of sort x ≡ wait_agreed sort e x m) it (agreed_inbound-waits agreed e m unused sort)
-verdict-waits (verdict.Agree agreed) e f m unused is sort =
-    let it : taken (agreed_outbound agreed (m.now + m.settings.idle) e.facts) e m ≡ f = cc in
-    subst (λ x. until_of sort x ≡ wait_agreed sort e x m) it (agreed_outbound-waits agreed e m sort)
-verdict-waits other e f m unused is sort = absurd cc
+verdict-waits v e f m unused is sort = grind (arith, agreed_inbound-waits, taken, agreed_outbound-waits)
 
 message-waits : (o : Option Message) (e f : Entry) (m : Machine) → e.facts.local ≡ false → turned_by_message o e m ≡ Some f → (sort : Kind) → until_of sort f ≡ wait_agreed sort e f m
 message-waits None e f m unused is sort = absurd cc
@@ -147,78 +94,34 @@ message-waits (Some message) e f m unused is sort = verdict-waits (verdict_of (r
 
 -- no grace runs while a protocol does that has begun
 begun-off : (protocol : ℕ) (e : Entry) → IsShaped e.facts → (begun protocol e).facts.grace ≡ Off
-begun-off protocol e h = by_bool (runs protocol e.facts.running)
-    (λ b. (if b then e else record e { facts = awakened protocol e.facts }).facts.grace ≡ Off)
-    (λ is. h.remote (runs-some protocol e.facts.running is)) (λ is. refl)
+begun-off protocol e h = grind (arith, runs-some)
 
 begun-runs : (protocol : ℕ) (e : Entry) → some_runs (awakened protocol e.facts).running ≡ true → some_runs (begun protocol e).facts.running ≡ true
-begun-runs protocol e wakes = by_bool (runs protocol e.facts.running)
-    (λ b. some_runs (if b then e else record e { facts = awakened protocol e.facts }).facts.running ≡ true)
-    (λ is. runs-some protocol e.facts.running is) (λ is. wakes)
+begun-runs protocol e wakes = grind arith
 
 begun-same : (protocol : ℕ) (e : Entry) (sort : Kind) → is_kind kind.Grace sort ≡ false → until_of sort (begun protocol e) ≡ until_of sort e
-begun-same protocol e sort other = by_bool (runs protocol e.facts.running)
-    (λ b. until_of sort (if b then e else record e { facts = awakened protocol e.facts }) ≡ until_of sort e)
-    (λ is. refl) (λ is. by_kind sort other)
-  where
-    by_kind : (x : Kind) → is_kind kind.Grace x ≡ false → until_of x (record e { facts = awakened protocol e.facts }) ≡ until_of x e
-    by_kind kind.Grace is = absurd (false≢true (sym is))
-    by_kind other is = refl
+begun-same protocol e sort other = grind arith
 
 -- what has begun, and stops where it is done
 asked-waits : (done : Bool) (protocol : ℕ) (e : Entry) (m : Machine) → IsShaped e.facts → some_runs (awakened protocol e.facts).running ≡ true → (sort : Kind) →
     until_of sort (stopped done protocol (m.now + m.settings.idle) (begun protocol e)) ≡ wait_asked sort e (stopped done protocol (m.now + m.settings.idle) (begun protocol e)) m
-asked-waits done protocol e m h wakes sort = by_kind sort
-  where
-    g : Entry
-    g = begun protocol e
-
-    until : ℕ
-    until = m.now + m.settings.idle
-
-    -- one that goes on runs, and where it was the last one a grace begins
-    graced : (b : Bool) → until_unused (stopped b protocol until g).facts.grace ≡ (if some_runs (stopped b protocol until g).facts.running then None else Some until)
-    graced true = by_bool (some_runs (with_responder protocol false g.facts.running))
-        (λ b. until_unused (if b then g.facts.grace else ForRemote until) ≡ (if b then None else Some until))
-        (λ is. ap until_unused (begun-off protocol e h)) (λ is. refl)
-    graced false = ap until_unused (begun-off protocol e h) ∙ sym (ap (λ b. if b then None else Some until) (begun-runs protocol e wakes))
-
-    same : (x : Kind) → is_kind kind.Grace x ≡ false → (b : Bool) → until_of x (stopped b protocol until g) ≡ until_of x g
-    same x other false = refl
-    same kind.Grace other true = absurd (false≢true (sym other))
-    same x other true = refl
-
-    by_kind : (x : Kind) → until_of x (stopped done protocol until g) ≡ wait_asked x e (stopped done protocol until g) m
-    by_kind kind.Grace = graced done
-    by_kind other = same other refl done ∙ begun-same protocol e other refl
+asked-waits done protocol e m h wakes sort =
+    grind (arith, begun-off protocol e h, begun-runs protocol e wakes, begun-same protocol e)
 
 paid-waits : (protocol : ℕ) (e : Entry) (sort : Kind) → until_of sort (paid protocol e) ≡ ended_where (is_reply_on protocol sort) sort e
-paid-waits protocol e kind.Reply2 = paid-until 2 protocol e
-paid-waits protocol e kind.Reply8 = paid-until 8 protocol e
-paid-waits protocol e kind.Reply10 = paid-until 10 protocol e
-paid-waits protocol e other = refl
+paid-waits protocol e sort = grind (arith, paid-until)
 
 requested-waits : (r : Result Seen FaultKind) (item : Item) (e f : Entry) (m : Machine) → watched item.id (agreed_sharing e.facts.agreed) item.body ≡ r → IsShaped e.facts →
     turned_by_request r item.id e m ≡ Some f → (sort : Kind) → until_of sort f ≡ wait_asked sort e f m
 requested-waits (Err fault) item e f m seen_ h is sort = absurd cc
 requested-waits (Ok seen) item e f m seen_ h is sort =
-    let it : stopped seen.done item.id (m.now + m.settings.idle) (begun item.id e) ≡ f = cc in
-    subst (λ x. until_of sort x ≡ wait_asked sort e x m) it
-    (asked-waits seen.done item.id e m h (woken-runs item.id e.facts (seen-known item.id (agreed_sharing e.facts.agreed) item.body seen seen_)) sort)
+    grind (arith, is, asked-waits seen.done item.id e m h (woken-runs item.id e.facts (seen-known item.id (agreed_sharing e.facts.agreed) item.body seen seen_)) sort)
 
 handled-waits : (p : Phase) (item : Item) (e f : Entry) (m : Machine) → e.facts.phase ≡ p → IsShaped e.facts → turned_by_item p item e m ≡ Some f → (sort : Kind) →
     until_of sort f ≡ wait_handled p item sort e f m
-handled-waits (Greeting until) item e f m at h is sort = message-waits (message_of item.body) e f m unused is sort
-  where
-    unused : e.facts.local ≡ false
-    unused = (h.unused (greeting-unnegotiated e.facts.phase (subst (λ p. is_greeting_phase p ≡ true) (sym at) refl))).local
+handled-waits (Greeting until) item e f m at h is sort = grind (arith, greeting-unnegotiated, message-waits)
 handled-waits Negotiated item e f m at h is sort =
-    let seen : Result Seen FaultKind = watched item.id (agreed_sharing e.facts.agreed) item.body in
-    by_bool (item.side == 0)
-    (λ b. (if b then turned_by_request seen item.id e m else Some (paid item.id e)) ≡ Some f →
-    until_of sort f ≡ (if b then wait_asked sort e f m else ended_where (is_reply_on item.id sort) sort e))
-    (λ is same. requested-waits seen item e f m refl h same sort)
-    (λ is same. let it : paid item.id e ≡ f = cc in subst (λ x. until_of sort x ≡ ended_where (is_reply_on item.id sort) sort e) it (paid-waits item.id e sort)) is
+    grind (arith, requested-waits (watched item.id (agreed_sharing e.facts.agreed) item.body) item e f m refl h, paid-waits item.id e sort)
 handled-waits other item e f m at h is sort = let it : e ≡ f = cc in ap (until_of sort) (sym it)
 
 -- ---- each act
@@ -228,9 +131,7 @@ stored-waits undecoded e kind.Handshake = refl
 stored-waits undecoded e other = refl
 
 shaped-at : (m : Machine) (cid : ℕ) (e : Entry) → IsOrdered m → entry_at cid m ≡ Some e → IsShaped e.facts × IsOwing e
-shaped-at m cid e h is =
-    let at : FoundIn (λ x. has_id cid x.facts) m.connections e = find_some (λ x. has_id cid x.facts) m.connections e is in
-    (All-stands (λ x. IsShaped x.facts) m.connections at.place e at.stands h.formed.shaped, All-stands IsOwing m.connections at.place e at.stands h.formed.owing)
+shaped-at m cid e h is = grind (arith, find_some (λ x. has_id cid x.facts) m.connections e is)
 
 -- what it has turned into waits so
 turned-waits : (act : Act) (m : Machine) → IsNext act m → Finds act m → (cid : ℕ) (e f : Entry) → is_about act m cid ≡ true → entry_at cid m ≡ Some e → turned act e m ≡ Some f →
@@ -239,41 +140,21 @@ turned-waits (fires_one d) m next found cid e f own at is sort =
     let h = shaped-at m cid e found at in
     fired-waits d.kind d.at e f m h.0 h.1
     (sym (ap (until_in d.kind) at) ∙ (ap (λ c. until_at d.kind c m) (sym (eqb-true d.cid.0 cid own)) ∙ next.waited)) is sort
-turned-waits (carries order) m next found cid e f own at is sort =
-    let it : turned_by_order order e m ≡ f = cc in ap (until_of sort) (sym it) ∙ ordered-waits order e m sort
-turned-waits (ends_dial own_id opened) m next found cid e f own at is sort =
-    let it : (if is_dialing_phase e.facts.phase && opened then record e { facts = connected (m.now + m.settings.handshake) e.facts } else e) ≡ f = cc in
-    ap (until_of sort) (sym it) ∙ dialed-waits opened e m sort
-turned-waits (stores entry undecoded) m next found cid e f own at is sort =
-    let it : record e { undecoded = undecoded } ≡ f = cc in ap (until_of sort) (sym it) ∙ stored-waits undecoded e sort
-turned-waits (handles_item own_id item) m next found cid e f own at is sort =
-    handled-waits e.facts.phase item e f m refl (shaped-at m cid e found at).0 is sort
+turned-waits (carries order) m next found cid e f own at is sort = grind (arith, turned_by_order, ordered-waits)
+turned-waits (ends_dial own_id opened) m next found cid e f own at is sort = grind (arith, dialed-waits)
+turned-waits (stores entry undecoded) m next found cid e f own at is sort = grind arith
+turned-waits (handles_item own_id item) m next found cid e f own at is sort = grind (arith, handled-waits, shaped-at)
 turned-waits (ends_stream own_id fault) m next found cid e f own at is sort = let it : e ≡ f = cc in ap (until_of sort) (sym it)
 turned-waits (is_closed own_id) m next found cid e f own at is sort = let it : e ≡ f = cc in ap (until_of sort) (sym it)
 turned-waits other m next found cid e f own at is sort = absurd (false≢true own)
 
 pub waits-begin : (act : Act) (m : Machine) → IsNext act m → Finds act m → WaitsBegin act m (does act m).machine
-waits-begin act m next found cid own = by_option (entry_at cid m)
-    (λ o. WhereStays (λ x y. (sort : Kind) → until_of sort y ≡ wait_after act sort x y m) o after)
-    (λ is. tt) (λ e is. by_after e is after (part-becomes act m found cid e own is))
-  where
-    after : Option Entry
-    after = entry_at cid (does act m).machine
-
-    by_after : (e : Entry) → entry_at cid m ≡ Some e → (o : Option Entry) → IsAsItWas (turned act e m) o →
-        WhereStays (λ x y. (sort : Kind) → until_of sort y ≡ wait_after act sort x y m) (Some e) o
-    by_after e is None becomes = tt
-    by_after e is (Some f) becomes = λ sort. turned-waits act m next found cid e f own is becomes sort
+waits-begin act m next found cid own = grind (arith, own, part-becomes act m found cid, turned-waits act m next found cid)
 
 -- ---- what has fired is over
 
 fired-over : (fired : Kind) (e : Entry) (m : Machine) (o : Option Entry) → IsAsItWas (turned_by_kind fired e m) o → until_in fired o ≡ None
-fired-over fired e m None becomes = refl
-fired-over kind.Grace e m (Some f) becomes = by_bool e.facts.local
-    (λ b. Some (if b then record e { facts = expired e.facts } else closing_entry m e) ≡ Some f → until_of kind.Grace f ≡ None)
-    (λ is same. let it : record e { facts = expired e.facts } ≡ f = cc in ap (until_of kind.Grace) (sym it))
-    (λ is same. let it : closing_entry m e ≡ f = cc in ap (until_of kind.Grace) (sym it)) becomes
-fired-over other e m (Some f) becomes = absurd cc
+fired-over fired e m o becomes = grind arith
 
 fires-over : (d : Deadline) (m : Machine) → IsOrdered m → until_at d.kind d.cid.0 (fires d m).machine ≡ None
 fires-over d m h = by_option (entry_at d.cid.0 m) (λ o. until_at d.kind d.cid.0 (fires d m).machine ≡ None)

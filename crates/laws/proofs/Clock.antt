@@ -1,24 +1,22 @@
 -- The moves of the clock: a reply is late, a grace is over, a handshake was not done in time, a time-wait is over.
-use Rattle.std.proofs.Common.{ℕ, zero, suc, ◌≡◌, ◌≤◌, arith, true, false, ◌&&◌, [], ◌∷◌, Some, All, Contains, refl, sym, ap, subst, leb-true}
-use Rattle.laws.proofs.Words.{cond_both, both_ways, false≢true, and_right, All-weaker, All-contains, All-contains_itself}
-use Rattle.laws.specs.Words.{Close, Unused, Fault, HandshakeWait, ReplyWait, Facts, Deadline, Kind, Handshake, TimeWait, expired, is_live, live_phase, is_greeting, is_greeting_phase, is_negotiated, is_outbound, Machine, Entry, Owed, Effect, unused, gone, tells, then_do, as_move, on_entry, peer_at, entry_turns, entry_goes, closing_entry, grace_over, wait_over, deadlines_of, reply_deadline, due, fires_as, fires, fires_some, fire_due}
+use Rattle.std.proofs.Common.{ℕ, zero, suc, ◌≡◌, ◌≤◌, arith, true, false, [], ◌∷◌, Some, All, Contains, refl, sym, ap, subst, leb-true}
+use Rattle.laws.proofs.Words.{cond_both, All-weaker, All-contains_itself}
+use Rattle.laws.specs.Words.{Close, Unused, Fault, HandshakeWait, ReplyWait, Facts, Deadline, Kind, Handshake, TimeWait, expired, is_live, live_phase, is_greeting, is_greeting_phase, is_negotiated, Machine, Entry, Owed, Effect, unused, gone, tells, then_do, as_move, entry_turns, entry_goes, closing_entry, grace_over, wait_over, deadlines_of, reply_deadline, due, fires_as, fires, fires_some, fire_due}
 use Rattle.net_base.specs.declared.timer.Kind.TheVariants.{Grace as GraceKind}
-use Rattle.laws.specs.AtMoves.{is_missed, failed_where, FailsWhere, IsPast, IsOver, IsLawful}
+use Rattle.laws.specs.AtMoves.{is_missed, FailsWhere, IsPast, IsOver, IsLawful}
 use Rattle.laws.specs.Sound.{IsOrderly}
-use Rattle.laws.specs.Stages.{stage_of_phase, stage_at}
 use Rattle.laws.specs.Telling.{IsTold}
 use Rattle.laws.specs.Steady.{IsShaped, IsOrdered}
 use Rattle.laws.proofs.Counts.{is_late}
-use Rattle.laws.proofs.Firing.{Due, due_of, deadlines-by, reply_kind-cases}
+use Rattle.laws.proofs.Firing.{due_of, deadlines-by}
 use Rattle.laws.proofs.Keeping.{Keeps}
 use Rattle.laws.proofs.Lawful.{Obeys, obeys_then, obeys_nothing, accounts_turned, accounts_gone, live_stage, stands-stage, ending-obeys, on_stands, turns-obeys, as_move-obeys}
 use Rattle.laws.proofs.Entries.{TurnsInto}
 use Rattle.laws.proofs.Lists.{StandsAt}
-use Rattle.laws.proofs.Shapes.{local-negotiated}
 use Rattle.laws.proofs.Telling.{told_move}
 use Rattle.laws.proofs.ToldMoves.{turned-told, turned-stage, goes-told, ended-told}
 use Rattle.laws.proofs.WholeEvents.{fires-keeps}
-use Rattle.laws.proofs.WholeMoves.{stands-shaped, stands-owing, greeting-live, negotiated-live}
+use Rattle.laws.proofs.WholeMoves.{stands-shaped, greeting-live, negotiated-live}
 use Rattle.laws.proofs.Cases.{by_option}
 
 -- ---- what it is that is late
@@ -40,9 +38,7 @@ abbrev MeansLate : ℕ → Entry → Deadline → Type 0
 MeansLate now e d = is_late now d ≡ true → LateAs now e d.kind
 
 reply-late : (now : ℕ) (e : Entry) (owed : Owed) → Contains e.owed owed → MeansLate now e (reply_deadline e.facts.cid owed)
-reply-late now e owed among late =
-    let waited : IsLate now e = record { owed = owed; among = among; late = leb-true owed.until now late } in
-    reply_kind-cases (LateAs now e) waited waited waited owed.protocol
+reply-late now e owed among late = grind arith
 
 deadlines_of-late : (now : ℕ) (e : Entry) → All (MeansLate now e) (deadlines_of e)
 deadlines_of-late now e = deadlines-by (MeansLate now e) e (λ until is late. ap is_greeting_phase is) (λ until is late. ap live_phase is)
@@ -63,12 +59,11 @@ grace_over-told : (m : Machine) (e : Entry) (k : ℕ) → IsOrderly m → Stands
     IsTold m (as_move (unused e.facts.cid.0) m (then_do (tells (Close e.facts.cid Unused ∷ []) m) (entry_turns e (closing_entry m e))))
 grace_over-told m e k h s live =
     let inner : Effect = entry_turns e (closing_entry m e) m in
-    let early : stage_of_phase e.facts.phase ≤ 3 = live_stage e.facts.phase live in
-    let before : stage_at e.facts.cid.0 m ≡ stage_of_phase e.facts.phase = stands-stage m e k h s in
-    let turns : TurnsInto e (closing_entry m e) = record { same_id = refl; same_addr = refl; live = λ l. absurd (false≢true l) } in
-    let after : stage_at e.facts.cid.0 inner.machine ≡ 4 = turned-stage m e (closing_entry m e) k h s turns in
+    let early = live_stage e.facts.phase live in
+    let before = stands-stage m e k h s in
+    let turns : TurnsInto e (closing_entry m e) = grind arith in
     ended-told (unused e.facts.cid.0) e.facts.cid Unused m inner refl refl (turned-told m e (closing_entry m e) k h s turns (omega (arith, early))) refl
-    (omega (arith, before, early)) (omega (arith, after)) (λ open_. tt)
+    (omega (arith, before, early)) (let after = turned-stage m e (closing_entry m e) k h s turns in omega (arith, after)) (λ open_. tt)
 
 grace_over-obeys : (m : Machine) (e : Entry) (k : ℕ) → IsOrdered m → StandsAt m.connections k e → IsPast m.now e.facts.grace →
     Obeys IsLawful m (grace_over e m)
@@ -76,16 +71,14 @@ grace_over-obeys m e k h s past =
     let closes : Effect = then_do (tells (Close e.facts.cid Unused ∷ []) m) (entry_turns e (closing_entry m e)) in
     let closed : Effect = as_move (unused e.facts.cid.0) m closes in
     cond_both e.facts.local (entry_turns e (record e { facts = expired e.facts }) m) closed (Obeys IsLawful m)
-    (λ local. turns-obeys IsLawful m e (record e { facts = expired e.facts }) k h.orderly s
-    (record { same_id = refl; same_addr = refl; live = λ l. l }) (record { up = λ up. up; asked = λ asked. asked }) (omega arith))
+    (λ local. turns-obeys IsLawful m e (record e { facts = expired e.facts }) k h.orderly s (grind arith) (grind arith) (omega arith))
     (λ idle. as_move-obeys IsLawful (unused e.facts.cid.0) m closes refl
     (record {
       back_off = tt;
       targets = tt;
       cause = on_stands (λ x. IsOver m.now x.facts) m e k h.orderly s (over m.now e.facts (stands-shaped m e k h s) idle past);
     })
-    (accounts_turned m e (closing_entry m e) k closed h.orderly s (record { same_id = refl; same_addr = refl; live = λ l. absurd (false≢true l) })
-    (record { up = λ up. absurd (both_ways (is_outbound e.facts && false) (and_right (is_outbound e.facts) false refl) up); asked = λ asked. asked }) refl
+    (accounts_turned m e (closing_entry m e) k closed h.orderly s (grind arith) (grind arith) refl
     (grace_over-told m e k h.orderly s (negotiated-live e.facts.phase (past-negotiated m.now e.facts (stands-shaped m e k h s) past)))))
 
 live-negotiated : (f : Facts) → is_live f ≡ false → is_negotiated f ≡ false
@@ -98,24 +91,19 @@ dead-unmissed f shape dead = grind (arith, dead, (shape.unused (live-negotiated 
 wait_over-obeys : (m : Machine) (e : Entry) (k : ℕ) → IsOrdered m → StandsAt m.connections k e → is_live e.facts ≡ false →
     Obeys IsLawful m (wait_over e m)
 wait_over-obeys m e k h s dead =
-    let closed : is_negotiated e.facts ≡ false = live-negotiated e.facts dead in
-    let stays : FailsWhere (is_missed e.facts) e m (wait_over e m).machine =
-    subst (λ b. peer_at e.facts.addr m ≡ failed_where b m.now m.settings.backoff (peer_at e.facts.addr m)) (sym (dead-unmissed e.facts (stands-shaped m e k h s) dead)) refl in
-    as_move-obeys IsLawful (gone e.facts.cid.0) m (entry_goes e m) refl
-    (record { back_off = tt; targets = tt; cause = on_stands (λ x. (is_negotiated x.facts ≡ false) × FailsWhere (is_missed x.facts) x m (wait_over e m).machine) m e k h.orderly s (closed, stays) })
+    let right = on_stands (λ x. (is_negotiated x.facts ≡ false) × FailsWhere (is_missed x.facts) x m (wait_over e m).machine) m e k h.orderly s
+    (live-negotiated e.facts dead, rw (dead-unmissed e.facts (stands-shaped m e k h s) dead) refl) in
+    as_move-obeys IsLawful (gone e.facts.cid.0) m (entry_goes e m) refl (record { back_off = tt; targets = tt; cause = right })
     (accounts_gone m e k (wait_over e m) h.orderly s refl (λ addr hot. hot) (λ addr known. known)
     (told_move (gone e.facts.cid.0) m (entry_goes e m) refl refl (goes-told m e k h.orderly s)))
 
 -- a reply is owed only while the connection is used
 late-live : (m : Machine) (e : Entry) (k : ℕ) → IsOrdered m → StandsAt m.connections k e → IsLate m.now e → is_live e.facts ≡ true
-late-live m e k h s late =
-    negotiated-live e.facts.phase (local-negotiated e.facts (stands-shaped m e k h s) (grind (arith, (stands-owing m e k h s).used, late.among.1)))
+late-live m e k h s late = grind arith
 
 fires_as-obeys : (kind : Kind) (m : Machine) (e : Entry) (k : ℕ) → IsOrdered m → StandsAt m.connections k e → LateAs m.now e kind →
     Obeys IsLawful m (fires_as kind e m)
-fires_as-obeys Handshake m e k h s late =
-    ending-obeys (Fault HandshakeWait) m e k h.orderly s (greeting-live e.facts.phase late)
-    (λ negotiated. tt) tt
+fires_as-obeys Handshake m e k h s late = grind (arith, ending-obeys (Fault HandshakeWait) m e k h.orderly s (greeting-live e.facts.phase late) (λ negotiated. tt) tt, greeting-live e.facts.phase late)
 fires_as-obeys GraceKind m e k h s late = grace_over-obeys m e k h s late
 fires_as-obeys TimeWait m e k h s late = wait_over-obeys m e k h s late
 fires_as-obeys other m e k h s late = ending-obeys (Fault ReplyWait) m e k h.orderly s (late-live m e k h s late) (λ negotiated. tt) tt
@@ -123,11 +111,7 @@ fires_as-obeys other m e k h s late = ending-obeys (Fault ReplyWait) m e k h.ord
 -- ---- all that are due
 
 pub fires-obeys : (d : Deadline) (m : Machine) → IsOrdered m → due m ≡ Some d → Obeys IsLawful m (fires d m)
-fires-obeys d m h is =
-    let next : Due m d = due_of m d h.orderly is in
-    subst (λ o. Obeys IsLawful m (on_entry o (fires_as d.kind) m)) (sym next.found)
-    (fires_as-obeys d.kind m next.owner next.place h next.stands
-    (All-contains (MeansLate m.now next.owner) (deadlines_of next.owner) d (deadlines_of-late m.now next.owner) next.among next.late))
+fires-obeys d m h is = grind (arith, due_of m d h.orderly is, fires_as-obeys, deadlines_of-late)
 
 pub fire_due-obeys : (n : ℕ) (m : Machine) → IsOrdered m → Obeys IsLawful m (fire_due n m)
 unfolding fire_due

@@ -1,8 +1,8 @@
 -- What a connection adds to the counts of the record: whether the limits count it, and how many of its deadlines
 -- are late.
-use Rattle.std.proofs.Common.{ℕ, ◌+◌, ◌≤◌, ◌≡◌, Bool, true, false, cond, ◌++◌, map, sum_by, count_by, nat_le, refl, ap, ◌∙◌, arith}
+use Rattle.std.proofs.Common.{ℕ, ◌+◌, ◌≤◌, ◌≡◌, Bool, true, false, cond, map, sum_by, count_by, nat_le, arith}
 use Rattle.laws.proofs.Words.{lt-leb, sum_by-append}
-use Rattle.laws.specs.Words.{Facts, Closing, Deadline, is_counted, expired, closing, Machine, Entry, counted_in, closing_entry, deadlines, deadlines_of, phase_deadlines, grace_deadlines, reply_deadline}
+use Rattle.laws.specs.Words.{Facts, Deadline, is_counted, expired, closing, Machine, Entry, counted_in, closing_entry, deadlines, deadlines_of, phase_deadlines, grace_deadlines, reply_deadline}
 use Rattle.laws.proofs.Lists.{sum_by-map, sum_by-flat_map}
 
 -- 1 where the limits count it
@@ -33,12 +33,7 @@ pub late_of-parts : (now : ℕ) (e : Entry) → late_of now e ≡
     count_by (is_late now) (phase_deadlines e.facts.cid e.facts.phase)
     + count_by (is_late now) (grace_deadlines e.facts.cid e.facts.grace)
     + count_by (is_late now) (map (reply_deadline e.facts.cid) e.owed)
-late_of-parts now e =
-    let one : Deadline → ℕ = λ d. cond (is_late now d) 1 0 in
-    let phase = phase_deadlines e.facts.cid e.facts.phase in
-    let grace = grace_deadlines e.facts.cid e.facts.grace in
-    let owed = map (reply_deadline e.facts.cid) e.owed in
-    sum_by-append one (phase ++ grace) owed ∙ ap (λ n. n + sum_by one owed) (sum_by-append one phase grace)
+late_of-parts now e = grind (arith, sum_by-append)
 
 -- A grace that is over makes no difference to a connection in local use.
 pub counted-expired : (f : Facts) → f.local ≡ true → is_counted (expired f) ≡ is_counted f
@@ -62,10 +57,4 @@ late-expired now e =
 -- the time-wait of a connection that this side closes is yet to come
 pub late-closing : (m : Machine) (e : Entry) → 1 ≤ m.settings.timewait →
     late_of m.now (closing_entry m e) + grace_late_of m.now e ≤ late_of m.now e
-late-closing m e positive =
-    let until : ℕ = m.now + m.settings.timewait in
-    let ahead : nat_le until m.now ≡ false = lt-leb until m.now (omega arith) in
-    let none : count_by (is_late m.now) (phase_deadlines e.facts.cid (Closing until)) ≡ 0 = rw ahead refl in
-    let after = late_of-parts m.now (closing_entry m e) in
-    let before = late_of-parts m.now e in
-    omega (arith, after, before, none)
+late-closing m e positive = grind (arith, late_of-parts m.now (closing_entry m e), late_of-parts m.now e, lt-leb)

@@ -1,28 +1,24 @@
 -- Whom each part of an event ends: whom it must, and nobody else but by pruning; and whom it prunes.
-use Rattle.std.proofs.Common.{ℕ, ◌+◌, ◌≡◌, Bool, true, false, not, ◌&&◌, ◌==◌, nat_le, if◌then◌else◌, List, [], ◌∷◌, ◌++◌, map, filter, find, Option, Some, None, Result, Ok, Err, refl, sym, ap, ◌∙◌, subst}
-use Rattle.laws.proofs.Words.{cond_both, flat_map-append, filter-append}
-use Rattle.laws.specs.Words.{AllByRecursion, unwrap_or, choice_of, is_acquirable, is_pending, runs, agreed_sharing, Order, Ask, Forget, Promote, Release, Activate, Deactivate, answer_of, Verdict, CutFault, Item, same_address, address_below, CloseCause, OwnAddr, Crossed, FaultKind, Malformed, Protocol, HandshakeWait, ReplyWait, Close, expired, awakened, Addr, Cid, Phase, Greeting, Negotiated, Cold, Warm, Hot, Kind, Handshake, TimeWait, watched, Seen, may_ask, item_number_of, alive_of, share_of, Alive, Share, kind_of, with_entry, without_entry, entry_turns, ending, vanishes, acquire, candidates_in, trim, says_done, release, awake, idle, dial, dial_opens, closing_entry, fires_as, Effect, Happened, Move, promoted, activated, shared, ended, unused, gone, on_entry, on_connection, nothing_more, tells, then_do, as_move, turned_away, admitted, accepted_beside, peer_connects, promoted_at, promote, is_used_at, on_used, asks_peer, activates, activate, deactivates, carries_out, sends_answer, judged, greets, Machine, Entry, Owed, counted_in, entry_at, live_entry_at, own_info, peer_at, peer_becomes, peer_is_ordinary, peer_comes, comes_ordinary, is_wanted_big, reply_on, owing, paid, handled_in, handled, faulted, replies, stops_if, serves, begins, takes_requests, asked_as, pays_chain_sync, pays_keep_alive, pays_peer_sharing, pays, brings, answered_as, talks}
-use Rattle.laws.specs.Words.verdict
+use Rattle.std.proofs.Common.{ℕ, ◌≡◌, Bool, false, ◌&&◌, if◌then◌else◌, List, [], ◌∷◌, ◌++◌, map, filter, find, Option, Some, None, Result, Ok, Err, refl, ap, ◌∙◌, arith}
+use Rattle.laws.proofs.Words.{flat_map-append, filter-append}
+use Rattle.laws.specs.Words.{AllByRecursion, unwrap_or, choice_of, is_pending, agreed_sharing, Order, Release, answer_of, Verdict, CutFault, Item, address_below, CloseCause, OwnAddr, FaultKind, Malformed, Protocol, HandshakeWait, ReplyWait, awakened, Addr, Cid, Phase, Greeting, Negotiated, Cold, Hot, Kind, Handshake, TimeWait, watched, Seen, kind_of, with_entry, without_entry, entry_turns, ending, candidates_in, trim, says_done, release, fires_as, Effect, Happened, promoted, activated, shared, on_entry, on_connection, nothing_more, then_do, as_move, turned_away, accepted_beside, peer_connects, promoted_at, promote, is_used_at, on_used, activates, activate, carries_out, sends_answer, judged, greets, Machine, Entry, Owed, entry_at, live_entry_at, own_info, peer_at, peer_becomes, peer_is_ordinary, peer_comes, comes_ordinary, reply_on, paid, handled_in, handled, faulted, serves, begins, takes_requests, asked_as, pays, brings, answered_as, talks}
 use Rattle.laws.specs.Words.cut
 use Rattle.laws.specs.Words.cause
 use Rattle.net_base.specs.declared.action.Away.TheVariants.{Full, Present}
 use Rattle.net_base.specs.declared.timer.Kind.TheVariants.{Grace}
-use Rattle.laws.specs.Words.alive
-use Rattle.laws.specs.Words.share
 use Rattle.laws.specs.Acts.{Act, fires_one, asks_for_roots, carries, connects, ends_dial, handles_item, ends_stream, is_closed, makes_ordinary, provides, provides_big, does}
-use Rattle.laws.specs.Ends.{protocol_fault, causes_of_verdict, causes_of_message, causes_of_greeting, fault_of_request, is_intersection, is_cookie, are_so_many, is_answer, fault_of_answer, fault_of, causes_of_fault, causes_of_item, kind_of_cut, causes_of_cut, causes_of_kind, causes_of_crossing, ends_on, ends_due, is_pruned, but_pruned, pruned_in}
+use Rattle.laws.specs.Ends.{protocol_fault, causes_of_verdict, causes_of_message, causes_of_greeting, fault_of_request, is_answer, fault_of_answer, fault_of, causes_of_fault, causes_of_item, kind_of_cut, causes_of_cut, causes_of_kind, causes_of_crossing, ends_on, ends_due, is_pruned, but_pruned, pruned_in}
 use Rattle.laws.specs.CarriedOut.{IsOneMove}
 use Rattle.laws.specs.InActions.{End, ended_by, ends_in}
 use Rattle.laws.proofs.ToldMoves.{turns_at-moves}
-use Rattle.laws.proofs.Lawful.{lost_by-quiet, lost-quiet, comes-providing}
-use Rattle.laws.proofs.ItemCases.{greets-due, brings-cases, trim-cases}
+use Rattle.laws.proofs.Lawful.{lost_by-quiet, comes-providing}
+use Rattle.laws.proofs.ItemCases.{greets-due, brings-cases}
 use Rattle.laws.proofs.Handshakes.{answer-quiet}
 use Rattle.laws.proofs.Lists.{all-appended}
 use Rattle.laws.proofs.Walk.{is_released, turned_by, cooled, release-parts}
-use Rattle.laws.proofs.Connects.{dialed-cases, closes-cases}
 use Rattle.laws.proofs.Orders.{says_done-quiet}
 use Rattle.laws.proofs.Talks.{replies-quiet}
-use Rattle.laws.proofs.Cases.{by_bool, by_option}
+use Rattle.laws.proofs.Cases.{by_bool}
 
 abbrev pub end_of : Entry → CloseCause → End
 end_of e cause = record { cid = e.facts.cid.0; cause = cause }
@@ -39,19 +35,7 @@ woken protocol e m = with_entry (record e { facts = awakened protocol e.facts })
 
 -- What pays a reply.
 pays-same : (owed : Owed) (body : List ℕ) → pays owed body ≡ is_answer owed body
-pays-same owed body = λ i. if owed.protocol == 2 then first (item_number_of body) i else if owed.protocol == 8 then alive_is (alive_of body) i else share_is (share_of body) i
-  where
-    first : (o : Option ℕ) → pays_chain_sync o ≡ is_intersection o
-    first None = refl
-    first (Some n) = refl
-
-    alive_is : (o : Option Alive) → pays_keep_alive owed.asked o ≡ is_cookie owed.asked o
-    alive_is (Some (alive.Reply n)) = refl
-    alive_is other = refl
-
-    share_is : (o : Option Share) → pays_peer_sharing owed.asked o ≡ are_so_many owed.asked o
-    share_is (Some (share.Peers addrs)) = refl
-    share_is other = refl
+pays-same owed body = grind arith
 
 -- what a cutter's fault is
 kind-same : (f : CutFault) → kind_of f ≡ kind_of_cut f
@@ -60,18 +44,14 @@ kind-same other = refl
 
 -- neither what a promotion does nor what an activation does is a move by itself
 pub promoted_at-moves : (o : Option Entry) (addr : Addr) (m : Machine) → (promoted_at o addr m).moves ≡ []
-promoted_at-moves None addr m = refl
-promoted_at-moves (Some e) addr m = cond_both (is_acquirable e.facts) (acquire e m) (dial addr m) (λ effect. effect.moves ≡ [])
-    (λ free. ap (λ ms. ms ++ []) (turns_at-moves _ _ _)) (λ other. refl)
+promoted_at-moves o addr m = grind (arith, turns_at-moves)
 
 pub on_used-moves : (addr : Addr) (m : Machine) → (on_used addr activates m).moves ≡ []
-on_used-moves addr m = by_option (find (is_used_at addr) m.connections) (λ o. (on_entry o activates m).moves ≡ [])
-    (λ is. refl) (λ e is. refl)
+on_used-moves addr m = grind arith
 
 -- so they are one move each
 pub promote-move : (addr : Addr) (m : Machine) → IsOneMove (promoted addr) m (promote addr m)
-promote-move addr m =
-    ap (λ ms. ms ++ record { happened = promoted addr; before = m; after = (promote addr m).machine } ∷ []) (promoted_at-moves (live_entry_at addr m) addr m)
+promote-move addr m = grind arith
 
 pub activate-move : (addr : Addr) (m : Machine) → IsOneMove (activated addr) m (activate addr m)
 activate-move addr m = ap (λ ms. ms ++ record { happened = activated addr; before = m; after = (activate addr m).machine } ∷ []) (on_used-moves addr m)
@@ -83,10 +63,7 @@ module _ (P : End → Type 0) where
     pub pruned : AllByRecursion P (pruned_in effect.moves)
 
   ends_as : (effect : Effect) (ends due : List End) → ends_in effect.moves ≡ ends → but_pruned ends ≡ due → AllByRecursion P (filter (λ end. is_pruned end.cause) ends) → EndsAs effect due
-  ends_as effect ends due is others pruned = record {
-    others = ap but_pruned is ∙ others;
-    pruned = subst (λ es. AllByRecursion P (filter (λ end. is_pruned end.cause) es)) (sym is) pruned;
-  }
+  ends_as effect ends due is others pruned = grind arith
 
   ends_nobody : (effect : Effect) → ends_in effect.moves ≡ [] → EndsAs effect []
   ends_nobody effect none = ends_as effect [] [] none refl tt
@@ -95,20 +72,10 @@ module _ (P : End → Type 0) where
   moves_nothing effect none = ends_nobody effect (ap ends_in none)
 
   moved-ends : (happened : Happened) (m : Machine) (effect : Effect) → ended_by happened ≡ [] → effect.moves ≡ [] → EndsAs (as_move happened m effect) []
-  moved-ends happened m effect ends none =
-      let move : Move = record { happened = happened; before = m; after = effect.machine } in
-      ends_nobody (as_move happened m effect) (ap (λ ms. ends_in (ms ++ move ∷ [])) none ∙ ap (λ l. l ++ []) ends)
+  moved-ends happened m effect ends none = grind (arith, ends_nobody)
 
   ends_both : (first : Effect) (next : Machine → Effect) (xs ys : List End) → EndsAs first xs → EndsAs (next first.machine) ys → EndsAs (then_do first next) (xs ++ ys)
-  ends_both first next xs ys one two =
-      let whole : ends_in (first.moves ++ (next first.machine).moves) ≡ ends_in first.moves ++ ends_in (next first.machine).moves =
-      flat_map-append (λ move. ended_by move.happened) first.moves (next first.machine).moves in
-      record {
-        others = ap but_pruned whole ∙ (filter-append (λ end. not (is_pruned end.cause)) (ends_in first.moves) (ends_in (next first.machine).moves) ∙ (λ i. one.others i ++ two.others i));
-        pruned = subst (AllByRecursion P)
-            (sym (ap (filter (λ end. is_pruned end.cause)) whole ∙ filter-append (λ end. is_pruned end.cause) (ends_in first.moves) (ends_in (next first.machine).moves)))
-            (all-appended P (pruned_in first.moves) (pruned_in (next first.machine).moves) one.pruned two.pruned);
-      }
+  ends_both first next xs ys one two = grind (arith, flat_map-append, filter-append, all-appended)
 
   ends_then : (first : Effect) (next : Machine → Effect) (ys : List End) → EndsAs first [] → EndsAs (next first.machine) ys → EndsAs (then_do first next) ys
   ends_then first next ys one two = ends_both first next [] ys one two
@@ -116,27 +83,19 @@ module _ (P : End → Type 0) where
   -- ---- a connection
 
   ended_is : (c : CloseCause) (e : Entry) (m : Machine) → ends_in (ending c e m).moves ≡ end_of e c ∷ []
-  ended_is c e m =
-      let move : Move = record { happened = ended e.facts.cid.0 c; before = m; after = (ending c e m).machine } in
-      ap (λ ms. ends_in (ms ++ move ∷ [])) (lost_by-quiet c e.facts (without_entry e.facts.cid.0 m)).moves
+  ended_is c e m = grind (arith, lost_by-quiet c e.facts (without_entry e.facts.cid.0 m))
 
   -- for whatever cause but pruning
   ending-ends : (c : CloseCause) (e : Entry) (m : Machine) → is_pruned c ≡ false → EndsAs (ending c e m) (end_of e c ∷ [])
-  ending-ends c e m other = ends_as (ending c e m) (end_of e c ∷ []) (end_of e c ∷ []) (ended_is c e m)
-      (ap (λ b. if not b then end_of e c ∷ [] else []) other) (subst (λ b. AllByRecursion P (if b then end_of e c ∷ [] else [])) (sym other) tt)
+  ending-ends c e m other = grind (arith, ended_is, ends_as)
 
   trim-ends : (moved : Cid) (m : Machine) → Chosen P moved m → EndsAs (trim moved m) []
-  trim-ends moved m chosen = trim-cases moved m (λ effect. EndsAs effect []) (ends_nobody (nothing_more m) refl)
-      (λ e is. ends_as (ending cause.Pruned e m) (end_of e cause.Pruned ∷ []) [] (ended_is cause.Pruned e m) refl (chosen e is, tt))
+  trim-ends moved m chosen = grind arith
 
   -- ---- an item
 
   judged-ends : (v : Verdict) (e : Entry) (m : Machine) → EndsAs (judged v e m) (map (end_of e) (causes_of_verdict v))
-  judged-ends (verdict.Accept agreed) e m = ends_nobody (judged (verdict.Accept agreed) e m) refl
-  judged-ends verdict.Query e m = ending-ends cause.Query e m refl
-  judged-ends (verdict.Agree agreed) e m = moves_nothing (judged (verdict.Agree agreed) e m) (ap (λ ms. ms ++ []) (turns_at-moves _ _ _))
-  judged-ends verdict.Wrong e m = ending-ends (cause.Fault Protocol) e m refl
-  judged-ends other e m = ending-ends cause.Refused e m refl
+  judged-ends v e m = grind (arith, turns_at-moves, ending-ends, ends_nobody, moves_nothing)
 
   greets-ends : (item : Item) (e : Entry) (m : Machine) → EndsAs (greets item e m) (map (end_of e) (causes_of_greeting item e.facts m))
   greets-ends item e m = greets-due causes_of_message protocol_fault causes_of_verdict item e m (λ effect causes. EndsAs effect (map (end_of e) causes))
@@ -146,18 +105,10 @@ module _ (P : End → Type 0) where
       (moves_nothing first (answer-quiet (answer_of v (own_info m.settings)) e.facts.cid m).moves) (judged-ends v e first.machine))
 
   serves-ends : (o : Option Entry) (seen : Seen) (protocol : ℕ) (m : Machine) → EndsAs (on_entry o (serves seen protocol) m) []
-  serves-ends None seen protocol m = ends_nobody (nothing_more m) refl
-  serves-ends (Some e) seen protocol m =
-      let first : Effect = replies seen.reply protocol e m in
-      let n : Machine = first.machine in
-      ends_then first (stops_if seen.done protocol e) [] (moves_nothing first (replies-quiet seen.reply protocol e m).moves)
-      (cond_both seen.done (idle protocol e n) (nothing_more n) (λ effect. EndsAs effect []) (λ done. ends_nobody (idle protocol e n) refl) (λ more. ends_nobody (nothing_more n) refl))
+  serves-ends o seen protocol m = grind (arith, ends_nobody (nothing_more m) refl, ends_then, moves_nothing, replies-quiet, ends_nobody)
 
   begins-ends : (protocol : ℕ) (e : Entry) (m : Machine) → Chosen P e.facts.cid (woken protocol e m) → EndsAs (begins protocol e m) []
-  begins-ends protocol e m chosen = cond_both (runs protocol e.facts.running) (nothing_more m) (awake protocol e m) (λ effect. EndsAs effect [])
-      (λ running. ends_nobody (nothing_more m) refl)
-      (λ silent. let new : Entry = record e { facts = awakened protocol e.facts } in
-      ends_then (entry_turns e new m) (trim e.facts.cid) [] (ends_nobody (entry_turns e new m) refl) (trim-ends e.facts.cid (woken protocol e m) chosen))
+  begins-ends protocol e m chosen = grind (arith, ends_nobody (nothing_more m) refl, trim-ends e.facts.cid (woken protocol e m) chosen, ends_then, ends_nobody)
 
   asked_as-ends : (r : Result Seen FaultKind) (protocol : ℕ) (e : Entry) (m : Machine) → Chosen P e.facts.cid (woken protocol e m) →
       EndsAs (asked_as r protocol e m) (map (end_of e) (causes_of_fault (fault_of_request r e.facts)))
@@ -180,20 +131,12 @@ module _ (P : End → Type 0) where
   answered_as-ends : (o : Option Owed) (item : Item) (e : Entry) (m : Machine) → EndsAs (answered_as o item e m) (map (end_of e) (causes_of_fault (fault_of_answer o item.body)))
   answered_as-ends None item e m = ending-ends (cause.Fault Protocol) e m refl
   answered_as-ends (Some owed) item e m =
-      subst (λ b. EndsAs (answered_as (Some owed) item e m) (map (end_of e) (causes_of_fault (if b then None else Some Protocol)))) (pays-same owed item.body) (by_bool (pays owed item.body)
-      (λ b. EndsAs (if b then then_do (entry_turns e (paid item.id e) m) (brings item.id item.body e) else ending (cause.Fault Protocol) e m)
-      (map (end_of e) (causes_of_fault (if b then None else Some Protocol))))
-      (λ is. ends_then (entry_turns e (paid item.id e) m) (brings item.id item.body e) [] (ends_nobody (entry_turns e (paid item.id e) m) refl)
-      (brings-ends item.id item.body e (with_entry (paid item.id e) m)))
-      (λ is. ending-ends (cause.Fault Protocol) e m refl))
+      grind (arith, pays-same owed item.body, ends_nobody (entry_turns e (paid item.id e) m) refl, brings-ends item.id item.body e (with_entry (paid item.id e) m), ending-ends (cause.Fault Protocol) e m refl, ends_then)
 
   talks-ends : (item : Item) (e : Entry) (m : Machine) → Chosen P e.facts.cid (woken item.id e m) → EndsAs (talks item e m) (map (end_of e) (causes_of_fault (fault_of item e)))
   talks-ends item e m chosen =
       let seen : Result Seen FaultKind = watched item.id (agreed_sharing e.facts.agreed) item.body in
-      by_bool (item.side == 0)
-      (λ b. EndsAs (if b then asked_as seen item.id e m else answered_as (reply_on item.id e) item e m)
-      (map (end_of e) (causes_of_fault (if b then fault_of_request seen e.facts else fault_of_answer (reply_on item.id e) item.body))))
-      (λ is. asked_as-ends seen item.id e m chosen) (λ is. answered_as-ends (reply_on item.id e) item e m)
+      grind (arith, asked_as-ends seen item.id e m chosen, answered_as-ends (reply_on item.id e) item e m)
 
   handled_in-ends : (p : Phase) (item : Item) (e : Entry) (m : Machine) → Chosen P e.facts.cid (woken item.id e m) → EndsAs (handled_in p item e m) (map (end_of e) (causes_of_item p item e m))
   handled_in-ends (Greeting until) item e m chosen = greets-ends item e m
@@ -207,20 +150,13 @@ module _ (P : End → Type 0) where
   on_ends (Some e) act m causes each = each e refl
 
   faulted-ends : (fault : Option CutFault) (e : Entry) (m : Machine) → EndsAs (faulted fault e m) (map (end_of e) (causes_of_cut fault))
-  faulted-ends None e m = ends_nobody (nothing_more m) refl
-  faulted-ends (Some fault) e m =
-      subst (λ kind. EndsAs (ending (cause.Fault (kind_of fault)) e m) (end_of e (cause.Fault kind) ∷ [])) (kind-same fault) (ending-ends (cause.Fault (kind_of fault)) e m refl)
+  faulted-ends fault e m = grind (arith, ends_nobody, kind-same, ending-ends)
 
   -- ---- a deadline
 
   fires_as-ends : (kind : Kind) (e : Entry) (m : Machine) → EndsAs (fires_as kind e m) (map (end_of e) (causes_of_kind kind e))
   fires_as-ends Handshake e m = ending-ends (cause.Fault HandshakeWait) e m refl
-  fires_as-ends Grace e m =
-      let closes_it : Effect = as_move (unused e.facts.cid.0) m (then_do (tells (Close e.facts.cid cause.Unused ∷ []) m) (entry_turns e (closing_entry m e))) in
-      by_bool e.facts.local
-      (λ b. EndsAs (if b then entry_turns e (record e { facts = expired e.facts }) m else closes_it) (map (end_of e) (if b then [] else cause.Unused ∷ [])))
-      (λ is. ends_nobody (entry_turns e (record e { facts = expired e.facts }) m) refl)
-      (λ is. ends_as closes_it (end_of e cause.Unused ∷ []) (end_of e cause.Unused ∷ []) refl refl tt)
+  fires_as-ends Grace e m = grind arith
   fires_as-ends TimeWait e m = ends_nobody (fires_as TimeWait e m) refl
   fires_as-ends other e m = ending-ends (cause.Fault ReplyWait) e m refl
 
@@ -228,28 +164,10 @@ module _ (P : End → Type 0) where
 
   beside-ends : (o : Option Entry) (addr : Addr) (m : Machine) →
       EndsAs (accepted_beside o addr m) (ends_on o (λ e. if is_pending e.facts && address_below addr m.settings.own then cause.Overwritten ∷ [] else []))
-  beside-ends None addr m = ends_nobody (admitted addr m) refl
-  beside-ends (Some e) addr m = by_tests (is_pending e.facts) (address_below addr m.settings.own)
-    where
-      by_tests : (p q : Bool) → EndsAs (if p then (if q then then_do (ending cause.Overwritten e m) (admitted addr) else turned_away Crossed m) else turned_away Present m)
-          (map (end_of e) (if p && q then cause.Overwritten ∷ [] else []))
-      by_tests true true = ends_both (ending cause.Overwritten e m) (admitted addr) (end_of e cause.Overwritten ∷ []) [] (ending-ends cause.Overwritten e m refl)
-          (ends_nobody (admitted addr (ending cause.Overwritten e m).machine) refl)
-      by_tests true false = ends_nobody (turned_away Crossed m) refl
-      by_tests false q = ends_nobody (turned_away Present m) refl
+  beside-ends o addr m = grind (arith, ends_nobody (turned_away Present m) refl, ends_nobody, ends_both, ending-ends)
 
   connects-ends : (addr : Addr) (m : Machine) → EndsAs (peer_connects addr m) (ends_on (live_entry_at addr m) (causes_of_crossing addr m))
-  connects-ends addr m = by_tests (same_address addr m.settings.own) (nat_le m.settings.hard (counted_in m))
-    where
-      nobody : (o : Option Entry) → [] ≡ ends_on o (λ e. [])
-      nobody None = refl
-      nobody (Some e) = refl
-
-      by_tests : (own full : Bool) → EndsAs (if own then turned_away OwnAddr m else if full then turned_away Full m else accepted_beside (live_entry_at addr m) addr m)
-          (ends_on (live_entry_at addr m) (λ e. if not own && not full && is_pending e.facts && address_below addr m.settings.own then cause.Overwritten ∷ [] else []))
-      by_tests true full = subst (EndsAs (turned_away OwnAddr m)) (nobody (live_entry_at addr m)) (ends_nobody (turned_away OwnAddr m) refl)
-      by_tests false true = subst (EndsAs (turned_away Full m)) (nobody (live_entry_at addr m)) (ends_nobody (turned_away Full m) refl)
-      by_tests false false = beside-ends (live_entry_at addr m) addr m
+  connects-ends addr m = grind (arith, ends_nobody (turned_away OwnAddr m) refl, ends_nobody (turned_away Full m) refl, beside-ends (live_entry_at addr m) addr m)
 
   -- ---- the governor
 
@@ -261,8 +179,7 @@ module _ (P : End → Type 0) where
       (moves_nothing (peer_becomes Cold e.facts.addr n) (turns_at-moves (peer_at e.facts.addr n) (λ p. record p { temp = Cold }) n)) (trim-ends e.facts.cid (cooled e m) chosen)
 
   on_used-ends : (addr : Addr) (act : Entry → Machine → Effect) (m : Machine) → ((e : Entry) → find (is_used_at addr) m.connections ≡ Some e → EndsAs (act e m) []) → EndsAs (on_used addr act m) []
-  on_used-ends addr act m each = by_option (find (is_used_at addr) m.connections) (λ o. EndsAs (on_entry o act m) [])
-      (λ is. ends_nobody (nothing_more m) refl) (λ e is. each e is)
+  on_used-ends addr act m each = grind arith
 
   one_move-ends : (happened : Happened) (m : Machine) (effect : Effect) → ended_by happened ≡ [] → IsOneMove happened m effect → EndsAs effect []
   one_move-ends happened m effect none one = ends_nobody effect (ap ends_in one ∙ ap (λ ends. ends ++ []) none)
@@ -273,14 +190,7 @@ module _ (P : End → Type 0) where
   ChosenByOrder other m = Unit {0}
 
   carries-ends : (order : Order) (m : Machine) → ChosenByOrder order m → EndsAs (carries_out order m) []
-  carries-ends (Ask addr n) m chosen = on_used-ends addr (asks_peer n) m
-      (λ e is. moves_nothing (asks_peer n e m) (turns_at-moves (peer_at e.facts.addr m) (λ p. record p { share_next = m.now + m.settings.sharegap }) (with_entry (owing 10 n m e) m)))
-  carries-ends (Forget addr) m chosen = ends_nobody (carries_out (Forget addr) m) refl
-  carries-ends (Promote addr) m chosen = one_move-ends (promoted addr) m (promote addr m) refl (promote-move addr m)
-  carries-ends (Release addr) m chosen = on_used-ends addr release m (λ e is. release-ends e m (chosen e is))
-  carries-ends (Activate addr) m chosen = one_move-ends (activated addr) m (activate addr m) refl (activate-move addr m)
-  carries-ends (Deactivate addr) m chosen = on_used-ends addr deactivates m
-      (λ e is. moves_nothing (deactivates e m) (turns_at-moves (peer_at e.facts.addr m) (λ p. record p { temp = Warm }) m))
+  carries-ends order m chosen = grind (arith, on_used-ends, moves_nothing, turns_at-moves, ends_nobody, one_move-ends, promote-move, release-ends, activate-move)
 
   -- ---- each act
 
@@ -292,18 +202,14 @@ module _ (P : End → Type 0) where
 
   pub part-ends : (act : Act) (m : Machine) → ChosenBy act m → EndsAs (does act m) (ends_due act m)
   part-ends (fires_one d) m chosen = on_ends (entry_at d.cid.0 m) (fires_as d.kind) m (causes_of_kind d.kind) (λ e is. fires_as-ends d.kind e m)
-  part-ends asks_for_roots m chosen = cond_both (may_ask m.now m.targets.root m.roots) _ _ (λ (effect : Effect). EndsAs effect [])
-      (λ too_few. ends_nobody _ refl) (λ enough. ends_nobody (nothing_more m) refl)
+  part-ends asks_for_roots m chosen = grind arith
   part-ends (carries order) m chosen = carries-ends order m chosen
   part-ends (connects addr) m chosen = connects-ends addr m
-  part-ends (ends_dial cid opened) m chosen = dialed-cases cid opened m (λ effect. EndsAs effect []) (ends_nobody (nothing_more m) refl)
-      (λ e k s dials. ends_nobody (dial_opens e m) refl) (λ e k s dials. moved-ends (gone e.facts.cid.0) m (vanishes e m) refl (lost-quiet e.facts (without_entry e.facts.cid.0 m)).moves)
+  part-ends (ends_dial cid opened) m chosen = grind arith
   part-ends (handles_item cid item) m chosen = on_ends (entry_at cid.0 m) (handled item) m (λ e. causes_of_item e.facts.phase item e m) (λ e is. handled_in-ends e.facts.phase item e m (chosen e is))
   part-ends (ends_stream cid fault) m chosen = on_ends (entry_at cid.0 m) (faulted fault) m (λ e. causes_of_cut fault) (λ e is. faulted-ends fault e m)
-  part-ends (is_closed cid) m chosen = closes-cases cid m (λ effect. EndsAs effect []) (ends_nobody (nothing_more m) refl)
-      (λ e k s own. moves_nothing (vanishes e m) (lost-quiet e.facts (without_entry e.facts.cid.0 m)).moves)
+  part-ends (is_closed cid) m chosen = grind arith
   part-ends (makes_ordinary addr) m chosen = moves_nothing (peer_is_ordinary addr m) (turns_at-moves (peer_at addr m) (λ p. record p { big = false }) m)
   part-ends (provides addr) m chosen = moves_nothing (comes_ordinary addr m) (comes-providing false addr m).moves
-  part-ends (provides_big addr) m chosen = cond_both (is_wanted_big addr m) _ _ (λ (effect : Effect). EndsAs effect [])
-      (λ wanted. comes-ends true addr m) (λ other. ends_nobody (nothing_more m) refl)
+  part-ends (provides_big addr) m chosen = grind arith
   part-ends other m chosen = ends_nobody (does other m) refl

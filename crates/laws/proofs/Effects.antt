@@ -1,5 +1,5 @@
 -- What each move adds to the counts of the record: counted connections and late deadlines.
-use Rattle.std.proofs.Common.{ℕ, ◌+◌, ◌≤◌, ◌≡◌, Bool, true, false, cond, not, ◌==◌, nat_le, nat_lt, List, [], ◌∷◌, ◌++◌, map, filter, count_by, refl, ap, ◌∙◌, arith}
+use Rattle.std.proofs.Common.{ℕ, ◌+◌, ◌≤◌, ◌≡◌, Bool, true, false, cond, not, ◌==◌, nat_le, nat_lt, List, [], ◌∷◌, ◌++◌, map, filter, count_by, refl, arith}
 use Rattle.laws.proofs.Words.{lt-leb, map-append, sum_by-append, sum_by-cons}
 use Rattle.laws.specs.Words.{Agreed, Cid, Facts, ForRemote, ForLocal, Greeting, is_counted, connected, agreed_outbound, acquired, is_outbound, is_greeting, is_negotiated, some_runs, phase_deadlines, grace_deadlines, reply_deadline, Entry, Owed, with_reply, without_reply}
 use Rattle.laws.proofs.Counts.{one_if_counted, is_late, late_of, late_of-parts, grace_late_of}
@@ -46,10 +46,7 @@ owed_late now cid owed = count_by (is_late now) (map (reply_deadline cid) owed)
 pub late-fewer : (now : ℕ) (old new : Entry) → phase_late_of now new ≤ phase_late_of now old →
     grace_late_of now new ≤ grace_late_of now old → owed_late now new.facts.cid new.owed ≤ owed_late now old.facts.cid old.owed →
     late_of now new ≤ late_of now old
-late-fewer now old new phase grace owed =
-    let after = late_of-parts now new in
-    let before = late_of-parts now old in
-    omega (arith, after, before)
+late-fewer now old new phase grace owed = grind (arith, late_of-parts now new, late_of-parts now old)
 
 pub ahead : (now wait : ℕ) → 1 ≤ wait → nat_le (now + wait) now ≡ false
 ahead now wait some = lt-leb (now + wait) now (omega arith)
@@ -73,17 +70,14 @@ owed-cons now cid o owed = sum_by-cons (λ d. cond (is_late now d) 1 0) (reply_d
 filters-fewer : (now : ℕ) (cid : Cid) (f g : Owed → Bool) → ((o : Owed) → f o ≡ true → g o ≡ false) → (owed : List Owed) →
     owed_late now cid (filter f owed) + owed_late now cid (filter g owed) ≤ owed_late now cid owed
 filters-fewer now cid f g apart [] = omega arith
-filters-fewer now cid f g apart (o ∷ owed) =
-    grind (arith, apart o, owed-cons now cid o owed, owed-cons now cid o (filter f owed), owed-cons now cid o (filter g owed), filters-fewer now cid f g apart owed)
+filters-fewer now cid f g apart (o ∷ owed) = grind (arith, owed-cons now cid o owed, owed-cons now cid o (filter f owed), owed-cons now cid o (filter g owed), filters-fewer now cid f g apart owed)
 
 pub paid-fewer : (now protocol : ℕ) (cid : Cid) (owed : List Owed) → owed_late now cid (without_reply protocol owed) ≤ owed_late now cid owed
 paid-fewer now protocol cid owed =
     let both = filters-fewer now cid (λ o. not (o.protocol == protocol)) (λ o. false) (λ o h. refl) owed in omega (arith, both)
 
 owed-append : (now : ℕ) (cid : Cid) (xs ys : List Owed) → owed_late now cid (xs ++ ys) ≡ owed_late now cid xs + owed_late now cid ys
-owed-append now cid xs ys =
-    ap (λ ds. count_by (is_late now) ds) (map-append (reply_deadline cid) xs ys)
-    ∙ sum_by-append (λ d. cond (is_late now d) 1 0) (map (reply_deadline cid) xs) (map (reply_deadline cid) ys)
+owed-append now cid xs ys = grind (arith, is_late, map-append, sum_by-append)
 
 -- a reply that is owed from now on is not late
 pub owing-fewer : (now : ℕ) (cid : Cid) (new : Owed) (owed : List Owed) → nat_le new.until now ≡ false →

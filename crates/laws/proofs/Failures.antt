@@ -1,26 +1,16 @@
 -- Whose peer fails: that of a connection which goes and is missed.
-use Rattle.std.proofs.Common.{◌≡◌, if◌then◌else◌, Some, refl, sym, ◌∙◌, subst}
-use Rattle.laws.specs.Words.{option_map, failed_peer, CloseCause, Overwritten, Addr, Facts, Peer, without_entry, lost, ending, vanishes, nothing_more, Machine, Entry, peer_at, turns_at, peer_changes, peer_fails}
-use Rattle.peer_book.specs.Book.{peer_at as peer_in, with_peer as with_peer_in}
+use Rattle.std.proofs.Common.{◌≡◌, refl, arith}
+use Rattle.laws.specs.Words.{option_map, CloseCause, Overwritten, Addr, Facts, Peer, without_entry, lost, ending, vanishes, Machine, Entry, peer_at, peer_changes}
 use Rattle.laws.specs.AtMoves.{is_missed, is_failure, failed_where, FailsWhere}
 use Rattle.laws.proofs.Ties.{found-addr, peer_here}
-use Rattle.laws.proofs.Cases.{by_bool, by_option}
 
 -- at the address of a peer that changes is what it turned into
 pub changed-found : (a : Addr) (change : Peer → Peer) (m : Machine) → ((p : Peer) → (change p).addr ≡ p.addr) →
     peer_at a (peer_changes a change m).machine ≡ option_map change (peer_at a m)
-changed-found a change m same = by_option (peer_at a m) (λ o. peer_at a (turns_at o change m).machine ≡ option_map change o)
-    (λ is. is)
-    (λ p is.
-    let new : Peer = change p in
-    let here : new.addr ≡ a = same p ∙ found-addr a m.peers p is in
-    subst (λ x. peer_in x (with_peer_in new m.peers) ≡ Some new) here
-    (peer_here new p m.peers (subst (λ x. peer_in x m.peers ≡ Some p) (sym here) is)))
+changed-found a change m same = grind (arith, found-addr, peer_here)
 
 lost-failed : (f : Facts) (m : Machine) → peer_at f.addr (lost f m).machine ≡ failed_where (is_missed f) m.now m.settings.backoff (peer_at f.addr m)
-lost-failed f m = by_bool (is_missed f)
-    (λ b. peer_at f.addr (if b then peer_fails f.addr m else nothing_more m).machine ≡ failed_where b m.now m.settings.backoff (peer_at f.addr m))
-    (λ is. changed-found f.addr (failed_peer m.now m.settings.backoff) m (λ p. refl)) (λ is. refl)
+lost-failed f m = grind (arith, changed-found)
 
 pub ending-failed : (cause : CloseCause) (e : Entry) (m : Machine) → FailsWhere (is_failure cause e.facts) e m (ending cause e m).machine
 ending-failed Overwritten e m = refl

@@ -1,7 +1,7 @@
 -- An order at one address lowers what is counted by one at most, and leaves other addresses as they were.
-use Rattle.std.proofs.Common.{ℕ, ◌+◌, ◌≤◌, ◌≡◌, Bool, true, false, cond, not, ◌&&◌, ◌||◌, List, [], ◌∷◌, filter, count_by, Some, refl, sym, ap, ◌∙◌, subst, arith}
+use Rattle.std.proofs.Common.{ℕ, ◌+◌, ◌≤◌, ◌≡◌, Bool, true, false, cond, not, List, [], ◌∷◌, filter, count_by, refl, sym, ap, ◌∙◌, subst, arith}
 use Rattle.laws.proofs.Words.{and_parts, sum_by-cons}
-use Rattle.laws.specs.Words.{list_any, AllByRecursion, has_id, is_live_at, same_address, Addr, Cid, Peer, Cold, Warm, is_of, known_of, without_peer, with_entry, without_entry, trim, release, on_used, asks_peer, deactivates, Machine, Entry, owing}
+use Rattle.laws.specs.Words.{list_any, AllByRecursion, is_live_at, same_address, Addr, Cid, Peer, Cold, Warm, is_of, known_of, without_peer, with_entry, trim, release, on_used, asks_peer, deactivates, Machine, Entry, owing}
 use Rattle.peer_book.specs.Book.{peer_at as peer_in}
 use Rattle.laws.specs.AtMoves.{some_connection}
 use Rattle.laws.specs.Steady.{ArePeersApart, IsOrdered}
@@ -18,14 +18,7 @@ use Rattle.laws.proofs.ItemCases.{trim-cases}
 
 pub all-back : (a : Addr) (ps qs : List Peer) → AreSameBut a ps qs → AreSameBut a qs ps
 all-back a [] [] h = tt
-all-back a (p ∷ ps) (q ∷ qs) h = (
-  record {
-    same_addr = sym h.0.same_addr;
-    same_class = sym h.0.same_class;
-    elsewhere = λ other. sym (h.0.elsewhere (subst (λ x. same_address x a ≡ false) h.0.same_addr other));
-  },
-  all-back a ps qs h.1,
-)
+all-back a (p ∷ ps) (q ∷ qs) h = grind (arith, all-back a ps qs h.1)
 all-back a ps qs h = elim h [ ]
 
 others-same : (a b : Addr) (ps qs : List Peer) → AreSameBut a ps qs → AllByRecursion (λ x. same_address x.addr b ≡ false) ps →
@@ -44,12 +37,7 @@ apart-same a ps qs h apart = elim h [ ]
 
 pub found-same : (a b : Addr) (ps qs : List Peer) → same_address b a ≡ false → AreSameBut a ps qs → peer_in b qs ≡ peer_in b ps
 found-same a b [] [] other h = refl
-found-same a b (p ∷ ps) (q ∷ qs) other h = by_bool (same_address p.addr b)
-    (λ c. peer_in b qs ≡ peer_in b ps → cond (same_address q.addr b) (Some q) (peer_in b qs) ≡ cond c (Some p) (peer_in b ps))
-    (λ at rest.
-    let apart : same_address p.addr a ≡ false = subst (λ x. same_address x a ≡ false) (sym (same_address-true p.addr b at)) other in
-    rw (ap (λ x. same_address x b) h.0.same_addr ∙ at) (ap Some (h.0.elsewhere apart)))
-    (λ away rest. rw (ap (λ x. same_address x b) h.0.same_addr ∙ away) rest) (found-same a b ps qs other h.1)
+found-same a b (p ∷ ps) (q ∷ qs) other h = grind (arith, same_address-true p.addr b, found-same a b ps qs other h.1)
 found-same a b ps qs other h = elim h [ ]
 
 of-same : (big : Bool) (p q : Peer) → q.big ≡ p.big → is_of big q ≡ is_of big p
@@ -67,10 +55,7 @@ known-same big a (p ∷ ps) (q ∷ qs) h =
 known-same big a ps qs h = elim h [ ]
 
 pub ChangesAt-back : (a : Addr) (m n : Machine) → ChangesAt a m n → ChangesAt a n m
-ChangesAt-back a m n h = record {
-  peers = all-back a m.peers n.peers h.peers;
-  connections = λ test b other. sym (h.connections test b other);
-}
+ChangesAt-back a m n h = grind (arith, all-back)
 
 -- ---- a peer is forgotten
 
@@ -112,20 +97,10 @@ pub record LeavesOthers (a : Addr) (m n : Machine) : Type 0 where
 
 filter-none : (p q : Entry → Bool) (es : List Entry) → list_any p es ≡ false → list_any p (filter q es) ≡ false
 filter-none p q [] none = refl
-filter-none p q (e ∷ es) none = by_test (q e) (p e) refl none (filter-none p q es)
-  where
-    by_test : (stays : Bool) (c : Bool) → p e ≡ c → (c || list_any p es) ≡ false → (list_any p es ≡ false → list_any p (filter q es) ≡ false) →
-        list_any p (cond stays (e ∷ filter q es) (filter q es)) ≡ false
-    by_test true false is none later = rw is (later none)
-    by_test false false is none later = later none
-    by_test stays c is none later = absurd cc
+filter-none p q (e ∷ es) none = grind (arith, filter-none p q es)
 
 trim-none : (test : Entry → Bool) (b : Addr) (moved : Cid) (m : Machine) → some_connection test b m ≡ false → some_connection test b (trim moved m).machine ≡ false
-trim-none test b moved m none = trim-cases moved m (λ effect. some_connection test b effect.machine ≡ false) none
-    (λ e is. ap (list_any passes) (lost-connections e.facts (without_entry e.facts.cid.0 m)) ∙ filter-none passes (λ x. not (has_id e.facts.cid.0 x.facts)) m.connections none)
-  where
-    passes : Entry → Bool
-    passes = λ e. same_address e.facts.addr b && test e
+trim-none test b moved m none = grind (arith, trim-cases, lost-connections, filter-none)
 
 releasing-leaves : (m : Machine) (e : Entry) (k : ℕ) → IsOrdered m → StandsAt m.connections k e → e.facts.local ≡ true →
     LeavesOthers e.facts.addr m (trim e.facts.cid (cooled e m)).machine

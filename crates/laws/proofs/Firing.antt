@@ -1,10 +1,10 @@
 -- The deadlines that are due fire, and none is left.
-use Rattle.std.proofs.Common.{ℕ, zero, suc, ◌≤◌, ◌≡◌, true, false, cond, List, [], ◌∷◌, ◌++◌, length, get_or, map, filter, flat_map, count_by, Some, None, All, Contains, ◌==◌, if◌then◌else◌, refl, sym, ap, ◌∙◌, subst, ⊎_elim, arith, eq-eqb}
+use Rattle.std.proofs.Common.{ℕ, zero, suc, ◌≤◌, ◌≡◌, true, false, List, [], ◌∷◌, ◌++◌, length, map, filter, flat_map, count_by, Some, None, All, Contains, refl, sym, ap, ◌∙◌, subst, ⊎_elim, arith, eq-eqb}
 use Rattle.laws.proofs.Words.{cond_both, nil_from_length, All-nil, All-cons, All-append, All-map, All-filter, All-contains, All-contains_itself, filter_passes, Contains-append_cases, Contains-append_right, length-filter, get_or-le-sum_by, count_by-le-length}
-use Rattle.laws.specs.Words.{Grace, Off, ForRemote, ForLocal, Phase, Greeting, Closing, Fault, HandshakeWait, ReplyWait, Deadline, Kind, Handshake, TimeWait, Reply2, Reply8, Reply10, deadline_before, is_live, live_phase, has_id, Machine, Entry, entry_at, deadlines, deadlines_of, phase_deadlines, grace_deadlines, reply_kind, reply_deadline, due, fires_as, fires, fires_some, fire_due, fire_all, timer, earlier, least, on_entry}
+use Rattle.laws.specs.Words.{Grace, ForRemote, ForLocal, Phase, Greeting, Closing, Fault, HandshakeWait, ReplyWait, Deadline, Kind, Handshake, TimeWait, Reply2, Reply8, Reply10, deadline_before, is_live, has_id, Machine, Entry, entry_at, deadlines, deadlines_of, phase_deadlines, grace_deadlines, reply_kind, reply_deadline, due, fires_as, fires, fires_some, fire_due, fire_all, timer, earlier, least, on_entry}
 use Rattle.net_base.specs.declared.timer.Kind.TheVariants.{Grace as GraceKind}
 use Rattle.laws.specs.Sound.{IsOrderly}
-use Rattle.laws.proofs.Lists.{StandsAt, stands_next, FoundIn, find_some, find_only}
+use Rattle.laws.proofs.Lists.{StandsAt, stands_next, find_some, find_only}
 use Rattle.laws.proofs.Entries.{one_has_id}
 use Rattle.laws.proofs.Counts.{is_late, late_of, late_in, grace_late_of}
 use Rattle.laws.proofs.Moves.{Lowers, lowers_nothing, lowers_then, lowers_less, ending-lowers, grace_over-lowers, wait_over-lowers}
@@ -24,13 +24,11 @@ fires_as-lowers other = ending-lowers (Fault ReplyWait)
 
 -- whatever deadline fires
 pub fires-lowers : (d : Deadline) (m : Machine) → IsOrderly m → Lowers 0 m (fires d m).machine
-fires-lowers d m h = by_option (entry_at d.cid.0 m) (λ o. Lowers 0 m (on_entry o (fires_as d.kind) m).machine)
-    (λ e. lowers_nothing m h)
-    (λ entry e.
-    let found : FoundIn (λ x. has_id d.cid.0 x.facts) m.connections entry =
-    find_some (λ x. has_id d.cid.0 x.facts) m.connections entry e in
-    lowers_less 0 (fired_of d.kind m.now entry) m (fires_as d.kind entry m).machine (omega arith)
-    (fires_as-lowers d.kind m entry found.place h found.stands))
+fires-lowers d m h =
+    let each = λ (entry : Entry) (e : entry_at d.cid.0 m ≡ Some entry).
+    (let found = find_some (λ x. has_id d.cid.0 x.facts) m.connections entry e in
+    lowers_less 0 (fired_of d.kind m.now entry) m (fires_as d.kind entry m).machine (omega arith) (fires_as-lowers d.kind m entry found.place h found.stands)) in
+    grind (arith, lowers_nothing m h, each)
 
 pub fire_due-lowers : (n : ℕ) (m : Machine) → IsOrderly m → Lowers 0 m (fire_due n m).machine
 unfolding fire_due
@@ -94,52 +92,36 @@ deadlines-by P e greets closes for_remote for_local owed =
     (All-map P (reply_deadline e.facts.cid) e.owed owed)
   where
     by_phase : (p : Phase) → e.facts.phase ≡ p → All P (phase_deadlines e.facts.cid p)
-    by_phase (Greeting until) is = all_one P (timer e.facts.cid Handshake until) (greets until is)
-    by_phase (Closing until) is = all_one P (timer e.facts.cid TimeWait until) (closes until is)
-    by_phase other is = All-nil P
+    by_phase p is = grind arith
 
     by_grace : (g : Grace) → e.facts.grace ≡ g → All P (grace_deadlines e.facts.cid g)
-    by_grace Off is = All-nil P
-    by_grace (ForRemote until) is = all_one P (timer e.facts.cid GraceKind until) (for_remote until is)
-    by_grace (ForLocal until) is = all_one P (timer e.facts.cid GraceKind until) (for_local until is)
+    by_grace g is = grind arith
 
 -- one that is owed waits for a reply
 pub reply_kind-cases : (P : Kind → Type 0) → P Reply2 → P Reply8 → P Reply10 → (protocol : ℕ) → P (reply_kind protocol)
-reply_kind-cases P on_2 on_8 on_10 protocol = cond_both (protocol == 2) Reply2 (if protocol == 8 then Reply8 else Reply10) P (λ is. on_2)
-    (λ not_2. cond_both (protocol == 8) Reply8 Reply10 P (λ is. on_8) (λ not_8. on_10))
+reply_kind-cases P on_2 on_8 on_10 protocol = grind arith
 
 -- Only a grace has a deadline of its kind.
 pub grace-among : (e : Entry) (d : Deadline) → Contains (deadlines_of e) d → d.kind ≡ GraceKind →
     Contains (grace_deadlines e.facts.cid e.facts.grace) d
 grace-among e d among = All-contains OfGrace (deadlines_of e) d (deadlines-by OfGrace e (λ until is same. absurd cc) (λ until is same. absurd cc)
-    (λ until is same. first (ForRemote until) until is (contains_first (timer e.facts.cid GraceKind until) []))
-    (λ until is same. first (ForLocal until) until is (contains_first (timer e.facts.cid GraceKind until) []))
-    (λ k owed inside. reply_kind-cases (λ kind. kind ≡ GraceKind → Contains (grace_deadlines e.facts.cid e.facts.grace) (reply_deadline e.facts.cid (get_or e.owed k owed)))
-    (λ same. absurd cc) (λ same. absurd cc) (λ same. absurd cc) (get_or e.owed k owed).protocol)) among
+    (λ until is same. grind (arith, is, contains_first (timer e.facts.cid GraceKind until) []))
+    (λ until is same. grind (arith, is, contains_first (timer e.facts.cid GraceKind until) []))
+    (λ k owed inside. grind (arith, reply_kind))) among
   where
     OfGrace : Deadline → Type 0
     OfGrace x = x.kind ≡ GraceKind → Contains (grace_deadlines e.facts.cid e.facts.grace) x
 
-    first : (g : Grace) (until : ℕ) → e.facts.grace ≡ g → Contains (grace_deadlines e.facts.cid g) (timer e.facts.cid GraceKind until) →
-        Contains (grace_deadlines e.facts.cid e.facts.grace) (timer e.facts.cid GraceKind until)
-    first g until is here = subst (λ x. Contains (grace_deadlines e.facts.cid x) (timer e.facts.cid GraceKind until)) (sym is) here
-
 -- a late one among some is counted
 late-counted : (now : ℕ) (ds : List Deadline) (d : Deadline) → Contains ds d → is_late now d ≡ true →
     1 ≤ count_by (is_late now) ds
-late-counted now ds d c late =
-    let least_sum : cond (is_late now (get_or ds c.0 d)) 1 0 ≤ count_by (is_late now) ds =
-    get_or-le-sum_by (λ x. cond (is_late now x) 1 0) ds c.0 d c.1 in
-    rw (c.2, late) at least_sum
+late-counted now ds d c late = grind (arith, is_late, get_or-le-sum_by)
 
 -- a late deadline of a connection is gone once it has fired
 fired_of-positive : (now : ℕ) (e : Entry) (d : Deadline) → Contains (deadlines_of e) d → is_late now d ≡ true →
     1 ≤ fired_of d.kind now e
-fired_of-positive now e d c late = by_kind d.kind refl
-  where
-    by_kind : (kind : Kind) → d.kind ≡ kind → 1 ≤ fired_of kind now e
-    by_kind GraceKind is = late-counted now (grace_deadlines e.facts.cid e.facts.grace) d (grace-among e d c is) late
-    by_kind other is = late-counted now (deadlines_of e) d c late
+fired_of-positive now e d c late =
+    grind (arith, late-counted now (deadlines_of e) d c late, grace-among e d c, late-counted now (grace_deadlines e.facts.cid e.facts.grace) d)
 
 -- the deadline that fires next is late, and stands among those of the record
 pub due-contains : (m : Machine) (d : Deadline) → due m ≡ Some d → Contains (deadlines m) d × (is_late m.now d ≡ true)
@@ -180,9 +162,8 @@ due_of m d h e =
           (eq-eqb owner.facts.cid.0 d.cid.0 (sym (ap (λ cid. cid.0) id)));
       -- only a connection that this side has closed has a time-wait
       waits = All-contains (λ x. x.kind ≡ TimeWait → is_live owner.facts ≡ false) (deadlines_of owner) d
-          (deadlines-by (λ x. x.kind ≡ TimeWait → is_live owner.facts ≡ false) owner (λ until is same. absurd cc) (λ until is same. ap live_phase is)
-          (λ until is same. absurd cc) (λ until is same. absurd cc) (λ k x inside. reply_kind-cases (λ kind. kind ≡ TimeWait → is_live owner.facts ≡ false)
-          (λ same. absurd cc) (λ same. absurd cc) (λ same. absurd cc) (get_or owner.owed k x).protocol)) has.among;
+          (deadlines-by (λ x. x.kind ≡ TimeWait → is_live owner.facts ≡ false) owner (λ until is. grind arith) (λ until is. grind arith)
+          (λ until is. grind arith) (λ until is. grind arith) (λ k x inside. grind (arith, reply_kind))) has.among;
     }
 
 -- The deadline that fires next leaves fewer that are late.

@@ -37,9 +37,7 @@ agrees_on-no_accept own version info = grind arith
 
 -- a dialer accepts nothing, and an acceptor agrees to nothing
 dialer-no_accept : (own : VersionInfo) (m : Message) → is_accept (verdict_of Dialer own m) ≡ false
-dialer-no_accept own (message.Propose table) = grind (arith, λ (offer : Offer). meets_info-no_accept own offer.version offer.info)
-dialer-no_accept own (message.Accept version info) = agrees_on-no_accept own version info
-dialer-no_accept own other = refl
+dialer-no_accept own m = grind arith
 
 acceptor-no_agree : (own : VersionInfo) (m : Message) → is_agree (verdict_of Acceptor own m) ≡ false
 acceptor-no_agree own (message.Propose table) = grind (arith, λ (offer : Offer). accepts_info-no_agree own offer.version offer.info)
@@ -76,11 +74,11 @@ greeting-up e greeting outbound = grind (arith, outbound, greeting-opening e.fac
 judged-trimmed : (v : Verdict) (m : Machine) (e : Entry) (k : ℕ) → Greets m e k → (is_accept v ≡ true → is_outbound e.facts ≡ false) →
     (is_agree v ≡ true → is_outbound e.facts ≡ true) → Trimmed IsLawful m (judged v e m)
 judged-trimmed (verdict.Accept agreed) m e k g accepts agrees =
+    let live = greeting-live e.facts.phase g.greeting in
     keeps-trimmed IsLawful m (judged (verdict.Accept agreed) e m) g.within (agrees_inbound-keeps agreed m e k g.ordered g.stands g.greeting (accepts refl))
-    (turns-obeys IsLawful m e (record e { facts = agreed_inbound agreed (m.now + m.settings.idle) e.facts }) k g.ordered.orderly g.stands
-    (record { same_id = refl; same_addr = refl; live = λ l. greeting-live e.facts.phase g.greeting })
+    (turns-obeys IsLawful m e (record e { facts = agreed_inbound agreed (m.now + m.settings.idle) e.facts }) k g.ordered.orderly g.stands (grind (arith, live))
     (record { up = agreed_inbound-down agreed (m.now + m.settings.idle) e g.greeting (stands-shaped m e k g.ordered g.stands); asked = λ asked. asked })
-    (negotiated-forward e.facts.phase Negotiated (greeting-live e.facts.phase g.greeting) refl))
+    (negotiated-forward e.facts.phase Negotiated live refl))
 judged-trimmed verdict.Query m e k g accepts agrees = ends cause.Query refl m e k g tt
 judged-trimmed (verdict.Agree agreed) m e k g accepts agrees =
     keeps-trimmed IsLawful m (judged (verdict.Agree agreed) e m) g.within (agrees_outbound-keeps agreed m e k g.ordered g.stands g.greeting (agrees refl))

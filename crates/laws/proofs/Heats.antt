@@ -1,13 +1,12 @@
 -- A peer that has answered where the chains meet is hot.
-use Rattle.std.proofs.Common.{◌≡◌, true, false, ◌==◌, is_some, Option, Some, None, refl, sym, ap, ◌∙◌, subst, eqb-true}
-use Rattle.laws.proofs.Words.{cond_both, both_ways, false≢true}
-use Rattle.laws.specs.Words.{option_map, Item, Phase, Negotiated, Hot, Peer, Addr, Fault, Protocol, CloseCause, has_id, is_negotiated_phase, agreed_sharing, watched, Effect, then_do, on_entry, entry_turns, with_entry, ending, handled, handled_in, asked_as, answered_as, reply_on, Owed, pays, paid, brings, peer_becomes, peer_at, Machine, Entry, entry_at}
+use Rattle.std.proofs.Common.{◌≡◌, true, false, ◌==◌, is_some, Option, Some, None, sym, ap, ◌∙◌, subst, eqb-true, arith}
+use Rattle.laws.proofs.Words.{cond_both, false≢true}
+use Rattle.laws.specs.Words.{Item, Phase, Hot, Peer, Addr, Fault, Protocol, CloseCause, has_id, is_negotiated_phase, Effect, then_do, entry_turns, with_entry, ending, handled_in, answered_as, Owed, pays, paid, brings, peer_becomes, peer_at, Machine, Entry, entry_at}
 use Rattle.laws.specs.Acts.{Act, handles_item, does}
-use Rattle.laws.specs.CarriedOut.{OnPeer, WhereAnswered, HeatsUp}
+use Rattle.laws.specs.CarriedOut.{OnPeer, HeatsUp}
 use Rattle.laws.proofs.Failures.{changed-found}
 use Rattle.laws.proofs.Lists.{find_some}
 use Rattle.laws.proofs.Moments.{ending-none}
-use Rattle.laws.proofs.Cases.{by_option}
 
 abbrev IsHot : Entry → Machine → Type 0
 IsHot e after = is_some (entry_at e.facts.cid.0 after) ≡ true → OnPeer (peer_at e.facts.addr after) (λ p. p.temp ≡ Hot)
@@ -19,8 +18,7 @@ abbrev hot : Peer → Peer
 hot p = record p { temp = Hot }
 
 becomes-hot : (addr : Addr) (m : Machine) → OnPeer (peer_at addr (peer_becomes Hot addr m).machine) (λ p. p.temp ≡ Hot)
-becomes-hot addr m = subst (λ o. OnPeer o (λ p. p.temp ≡ Hot)) (sym (changed-found addr hot m (λ p. refl)))
-    (by_option (peer_at addr m) (λ o. OnPeer (option_map hot o) (λ p. p.temp ≡ Hot)) (λ is. tt) (λ p is. refl))
+becomes-hot addr m = grind (arith, changed-found)
 
 answered-hot : (o : Option Owed) (item : Item) (e : Entry) (m : Machine) → item.id ≡ 2 → IsHot e (answered_as o item e m).machine
 answered-hot None item e m on = ended-hot (Fault Protocol) e m
@@ -31,19 +29,11 @@ answered-hot (Some owed) item e m on =
     (λ other. ended-hot (Fault Protocol) e m)
 
 handled-hot : (p : Phase) (item : Item) (e : Entry) (m : Machine) → is_negotiated_phase p ≡ true → (item.side == 0) ≡ false → item.id ≡ 2 → IsHot e (handled_in p item e m).machine
-handled-hot Negotiated item e m negotiated answers on =
-    cond_both (item.side == 0) (asked_as (watched item.id (agreed_sharing e.facts.agreed) item.body) item.id e m) (answered_as (reply_on item.id e) item e m)
-    (λ (effect : Effect). IsHot e effect.machine) (λ asks. absurd (both_ways (item.side == 0) answers asks)) (λ other. answered-hot (reply_on item.id e) item e m on)
-handled-hot other item e m negotiated answers on = absurd (false≢true negotiated)
+handled-hot p item e m negotiated answers on = grind (arith, answered-hot)
 
 pub heats-up : (act : Act) (m : Machine) → HeatsUp act m (does act m).machine
-heats-up (handles_item own item) m = by_entry (entry_at own.0 m) refl
-  where
-    by_entry : (o : Option Entry) → entry_at own.0 m ≡ o →
-        WhereAnswered item o (λ e. is_some (entry_at own.0 (on_entry o (handled item) m).machine) ≡ true → OnPeer (peer_at e.facts.addr (on_entry o (handled item) m).machine) (λ p. p.temp ≡ Hot))
-    by_entry None is = tt
-    by_entry (Some e) is = λ negotiated answers on.
-        subst (λ c. is_some (entry_at c (handled item e m).machine) ≡ true → OnPeer (peer_at e.facts.addr (handled item e m).machine) (λ p. p.temp ≡ Hot))
-        (eqb-true e.facts.cid.0 own.0 (find_some (λ x. has_id own.0 x.facts) m.connections e is).passes)
-        (handled-hot e.facts.phase item e m negotiated answers on)
+heats-up (handles_item own item) m =
+    let each = λ (e : Entry). handled-hot e.facts.phase item e m in
+    let own_id = λ (e : Entry) (is : entry_at own.0 m ≡ Some e). eqb-true e.facts.cid.0 own.0 (find_some (λ x. has_id own.0 x.facts) m.connections e is).passes in
+    grind (arith, each, own_id)
 heats-up other m = tt

@@ -54,7 +54,7 @@ act-none (fires_one d) m still =
 act-none (ends_dial cid opened) m still =
     found-none cid.0 (dialed opened) m (λ e stands. dialed-walk anything Given none-kept opened e m refl stands (λ dials failed. refl))
 act-none (handles_item cid item) m still =
-    found-none cid.0 (handled item) m (λ e stands. handled-walk anything Given none-kept e.facts.phase item e m refl refl stands)
+    found-none cid.0 (handled item) m (λ e stands. handled-walk anything Given none-kept e.facts.phase item e m refl refl refl stands)
 act-none (ends_stream cid fault) m still = found-none cid.0 (faulted fault) m (λ e stands. faulted-walk anything Given none-kept fault e m)
 act-none (is_closed cid) m still = closes-cases cid m (Given m) (unchanged refl) (λ e k s own. vanishes-none e m)
 act-none (makes_ordinary addr) m still = turns_at-none (peer_at addr m) (λ p. record p { big = false }) m

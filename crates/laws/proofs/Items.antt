@@ -1,15 +1,14 @@
 -- What an item leaves: what is agreed on in a handshake, which protocols the other side runs, and that what still stands stands open.
-use Rattle.std.proofs.Common.{◌+◌, ◌≡◌, true, if◌then◌else◌, Option, Some, None, refl, ap, ◌∙◌, eq-eqb, arith, ℕ, Bool, false, not, ◌==◌, Result, Ok, Err, subst}
+use Rattle.std.proofs.Common.{◌≡◌, true, if◌then◌else◌, Option, Some, None, refl, ap, ◌∙◌, eq-eqb, arith, ℕ, Bool, false, not, ◌==◌, Result, subst}
 use Rattle.laws.proofs.Words.{false≢true}
 use Rattle.laws.specs.Words.{option_and_then, is_greeting_phase, is_outbound_by, verdict_of, Acceptor, Dialer, Verdict, message_of, Message, Item, Cid, Phase, Greeting, role_of, Machine, Entry, entry_at, own_info, is_negotiated_phase, agreed_sharing, runs, with_responder, FaultKind, Negotiated, Responders, watched, Seen, paid, is_live, with_entry, on_entry, handled, handles}
 use Rattle.laws.specs.Acts.{Act, handles_item, does}
 use Rattle.laws.specs.Agreed.{agreement_of, agreement_in, WhereNegotiated, AgreesRight}
-use Rattle.laws.specs.CarriedOut.{WhereGreeting}
 use Rattle.laws.specs.Untouched.{IsAsItWas}
 use Rattle.laws.proofs.Turned.{turned_by_verdict, turned_by_message, turned_by_item, part-becomes, begun, stopped, turned_by_request}
 use Rattle.laws.proofs.Walk.{Finds}
 use Rattle.laws.proofs.Cases.{by_option}
-use Rattle.laws.specs.Responders.{WhereSeen, WhereAsked, WhereThere, RespondsRight}
+use Rattle.laws.specs.Responders.{WhereSeen, WhereThere, RespondsRight}
 use Rattle.laws.specs.Steady.{IsOrdered}
 use Rattle.laws.proofs.Remains.{turned-found}
 
@@ -30,10 +29,8 @@ handled-agrees other item e m o becomes greeting = absurd (false≢true greeting
 item-agrees : (own : Cid) (item : Item) (m : Machine) → Finds (handles_item own item) m → AgreesRight (handles_item own item) m (does (handles_item own item) m).machine
 item-agrees own item m found =
     let after : Option Entry = entry_at own.0 (does (handles_item own item) m).machine in
-    by_option (entry_at own.0 m)
-    (λ o. WhereGreeting o (λ e. WhereNegotiated after (λ f. f.facts.agreed ≡ agreement_in e.facts item m.settings)))
-    (λ is. tt)
-    (λ e is. handled-agrees e.facts.phase item e m after (part-becomes (handles_item own item) m found own.0 e (eq-eqb own.0 own.0 refl) is))
+    let each = λ (e : Entry) (is : entry_at own.0 m ≡ Some e). handled-agrees e.facts.phase item e m after (part-becomes (handles_item own item) m found own.0 e (eq-eqb own.0 own.0 refl) is) in
+    grind (arith, each)
 
 pub agrees-right : (act : Act) (m : Machine) → Finds act m → AgreesRight act m (does act m).machine
 agrees-right (handles_item cid item) m found = item-agrees cid item m found
@@ -56,9 +53,7 @@ stopped-running done protocol until e = grind (arith, begun-running protocol e, 
 -- where the connection is there, its responders are these
 requested-runs : (r : Result Seen FaultKind) (protocol : ℕ) (e : Entry) (m : Machine) (o : Option Entry) → IsAsItWas (turned_by_request r protocol e m) o →
     WhereSeen r (λ seen. WhereThere o (λ f. f.facts.running ≡ with_responder protocol (not seen.done) e.facts.running))
-requested-runs (Err fault) protocol e m o becomes = tt
-requested-runs (Ok seen) protocol e m None becomes = tt
-requested-runs (Ok seen) protocol e m (Some f) becomes = grind (arith, becomes, stopped-running seen.done protocol (m.now + m.settings.idle) e)
+requested-runs r protocol e m o becomes = grind (arith, stopped-running)
 
 handled-runs : (p : Phase) (item : Item) (e : Entry) (m : Machine) (o : Option Entry) → IsAsItWas (turned_by_item p item e m) o → is_negotiated_phase p ≡ true → (item.side == 0) ≡ true →
     WhereSeen (watched item.id (agreed_sharing e.facts.agreed) item.body) (λ seen. WhereThere o (λ f. f.facts.running ≡ with_responder item.id (not seen.done) e.facts.running))
@@ -70,10 +65,8 @@ handled-runs other item e m o becomes negotiated asks = absurd (false≢true neg
 item-runs : (own : Cid) (item : Item) (m : Machine) → Finds (handles_item own item) m → RespondsRight (handles_item own item) m (does (handles_item own item) m).machine
 item-runs own item m found =
     let after : Option Entry = entry_at own.0 (does (handles_item own item) m).machine in
-    by_option (entry_at own.0 m)
-    (λ o. WhereAsked item o (λ e seen. WhereThere after (λ f. f.facts.running ≡ with_responder item.id (not seen.done) e.facts.running)))
-    (λ is. tt)
-    (λ e is. handled-runs e.facts.phase item e m after (part-becomes (handles_item own item) m found own.0 e (eq-eqb own.0 own.0 refl) is))
+    let each = λ (e : Entry) (is : entry_at own.0 m ≡ Some e). handled-runs e.facts.phase item e m after (part-becomes (handles_item own item) m found own.0 e (eq-eqb own.0 own.0 refl) is) in
+    grind (arith, each)
 
 pub responds-right : (act : Act) (m : Machine) → Finds act m → RespondsRight act m (does act m).machine
 responds-right (handles_item cid item) m found = item-runs cid item m found
@@ -97,9 +90,7 @@ requested-live : (r : Result Seen FaultKind) (protocol : ℕ) (e x : Entry) (m :
 requested-live r protocol e x m live is = grind (arith, live, is)
 
 item-live : (p : Phase) (item : Item) (e x : Entry) (m : Machine) → is_live e.facts ≡ true → turned_by_item p item e m ≡ Some x → is_live x.facts ≡ true
-item-live p item e x m live is =
-    let asked = requested-live (watched item.id (agreed_sharing e.facts.agreed) item.body) item.id e x m live in
-    grind (arith, live, is, message-live (message_of item.body) e x m, asked)
+item-live p item e x m live is = grind (arith, requested-live, message-live)
 
 pub handles-open : (cid : Cid) (item : Item) (m : Machine) → IsOrdered m → IsOpen cid.0 m → IsOpen cid.0 (handles cid item m).machine
 handles-open cid item m h open_ x found = by_option (entry_at cid.0 m) (λ o. is_live x.facts ≡ true)

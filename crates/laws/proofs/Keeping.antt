@@ -107,17 +107,12 @@ IsNumbered roots = (job : ℕ) → roots.pending ≡ Some job → job < roots.ne
 pub elsewhere-moves : (targets : Targets) (big : BigTargets) (roots : RootState) (peers : List Peer) (m : Machine) →
     IsOrdered m → IsNumbered roots → IsBook m.settings.own peers → (LocalsAreOrdinary m → LocalsAreOrdinary (record m { peers = peers })) →
     Moves 0 m (record m { targets = targets; big_targets = big; roots = roots; peers = peers })
-elsewhere-moves targets big roots peers m h numbered book classes =
-    let counted : counted_in m ≤ counted_in m + 0 = omega arith in
-    let late : late_in m ≤ late_in m = omega arith in
-    assumption
+elsewhere-moves targets big roots peers m h numbered book classes = grind arith
 
 -- what is neither a connection nor a peer is no matter of either
 pub elsewhere-keeps : (targets : Targets) (big : BigTargets) (roots : RootState) (m : Machine) →
     IsOrdered m → IsNumbered roots → Keeps 0 m (record m { targets = targets; big_targets = big; roots = roots })
-elsewhere-keeps targets big roots m h numbered =
-    moves-keeps 0 m (record m { targets = targets; big_targets = big; roots = roots })
-    (elsewhere-moves targets big roots m.peers m h numbered (book_of m h.formed) (λ locals. locals)) (λ ties. ties)
+elsewhere-keeps targets big roots m h numbered = grind arith
 
 pub peers-moves : (peers : List Peer) (m : Machine) → IsOrdered m → IsBook m.settings.own peers →
     (LocalsAreOrdinary m → LocalsAreOrdinary (record m { peers = peers })) → Moves 0 m (record m { peers = peers })

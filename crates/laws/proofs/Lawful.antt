@@ -1,16 +1,15 @@
 -- The moves of a part of a step: each keeps a law, no connection whose handshake is done is gone without one, and nobody
 -- comes up without one.
-use Rattle.std.proofs.Common.{ℕ, ◌+◌, ◌%◌, ◌≡◌, ◌≤◌, Bool, true, false, ◌==◌, nat_lt, if◌then◌else◌, arith, List, [], ◌∷◌, ◌++◌, Some, is_some, refl, sym, ap, ◌∙◌, subst}
-use Rattle.laws.proofs.Words.{cond_both, false≢true}
-use Rattle.laws.specs.Words.{AllByRecursion, same_address, Action, CloseCause, Unused, Overwritten, Facts, Phase, Negotiated, Closing, Peer, has_id, is_live, live_phase, is_negotiated, is_negotiated_phase, Machine, Entry, entry_at, Effect, Happened, Move, promoted, shared, ended, nothing_more, tells, then_do, as_move, peer_at, peer_changes, peer_fails, peer_succeeds, note_of_coming, peer_comes, Addr, new_peer, entry_of, entered, Added, New, owing, sends_as_initiator, with_entry, without_entry, entry_turns, entry_goes, is_missed, lost, lost_by, ending, is_used, Warm, written_alive, failed_peer}
-use Rattle.peer_book.specs.Book.{peer_at as peer_in}
+use Rattle.std.proofs.Common.{ℕ, ◌%◌, ◌≡◌, ◌≤◌, Bool, true, false, nat_lt, arith, List, [], Some, refl, sym, ap, ◌∙◌, subst}
+use Rattle.laws.proofs.Words.{false≢true}
+use Rattle.laws.specs.Words.{AllByRecursion, same_address, Action, CloseCause, Unused, Overwritten, Facts, Phase, Negotiated, Closing, Peer, has_id, is_live, live_phase, is_negotiated, is_negotiated_phase, Machine, Entry, entry_at, Effect, Happened, Move, promoted, shared, ended, nothing_more, tells, then_do, as_move, peer_at, peer_changes, peer_succeeds, note_of_coming, peer_comes, Addr, new_peer, entry_of, entered, Added, New, owing, sends_as_initiator, with_entry, without_entry, entry_turns, entry_goes, lost, lost_by, ending, is_used, Warm, written_alive}
 use Rattle.warm_messages.specs.declared.alive.Alive.TheVariants.{Ask}
-use Rattle.laws.specs.AtMoves.{OutOfBackOff, WithinTargets, IsPrunedRightly, is_failure, FailsWhere, OnEntry, ForCause, IsLawful, is_up_connection, is_up, is_hot_peer, is_asked_connection, is_hot_or_asked, is_known, promotes, activates, shares}
+use Rattle.laws.specs.AtMoves.{OutOfBackOff, WithinTargets, IsPrunedRightly, is_failure, FailsWhere, OnEntry, ForCause, IsLawful, is_up_connection, is_up, is_asked_connection, is_hot_or_asked, is_known, promotes, activates, shares}
 use Rattle.laws.specs.Parts.{RisesBy}
 use Rattle.laws.specs.Sound.{IsOrderly}
 use Rattle.laws.specs.Stages.{stage_of_phase, stage_of, stage_at, stage_ended, IsLateCause}
 use Rattle.laws.specs.Telling.{IsTold}
-use Rattle.laws.specs.InActions.{Given, ended_by, promoted_by_dial}
+use Rattle.laws.specs.InActions.{ended_by, promoted_by_dial}
 use Rattle.laws.proofs.Entries.{TurnsInto, one_has_id, has_own_id, with_new}
 use Rattle.laws.proofs.Failures.{ending-failed}
 use Rattle.laws.proofs.Keeping.{note-machine}
@@ -21,7 +20,6 @@ use Rattle.laws.proofs.Rises.{rises_by_then, rises_by_move, rises_said, StaysDow
 use Rattle.laws.proofs.Telling.{are_mute, mute, told_unchanged, told_then, told_move}
 use Rattle.laws.proofs.Ties.{turned_elsewhere}
 use Rattle.laws.proofs.ToldMoves.{turned-told, goes-told, goes-stage, ended-told, changes-told, turns_at-next, peer_comes-told, turns_at-moves, turns_at-connections}
-use Rattle.laws.proofs.Cases.{by_bool}
 
 -- ---- nobody comes up without a move
 
@@ -52,12 +50,7 @@ accounts_move happened m effect no_end no_dial h = record {
 -- nobody comes up
 accounts_none : (m : Machine) (effect : Effect) → NoneConnected m effect.machine → StaysDown is_hot m effect.machine → StaysDown is_known m effect.machine →
     IsTold m effect → Accounts m effect
-accounts_none m effect connected hot known told = record {
-  promotions = rises_nowhere is_up promotes m effect connected.up;
-  activations = rises_nowhere is_hot_or_asked activates m effect (hot_or_asked-down m effect.machine hot connected.asked);
-  arrivals = rises_nowhere is_known shares m effect known;
-  told = told;
-}
+accounts_none m effect connected hot known told = grind arith
 
 -- a connection turns
 pub accounts_turned : (m : Machine) (e new : Entry) (k : ℕ) (effect : Effect) → IsOrderly m → StandsAt m.connections k e → TurnsInto e new → IsNoHigher e new →
@@ -70,17 +63,13 @@ accounts_turned m e new k effect h s t lower same told =
 pub accounts_gone : (m : Machine) (e : Entry) (k : ℕ) (effect : Effect) → IsOrderly m → StandsAt m.connections k e →
     effect.machine.connections ≡ (without_entry e.facts.cid.0 m).connections → StaysDown is_hot m effect.machine → StaysDown is_known m effect.machine →
     IsTold m effect → Accounts m effect
-accounts_gone m e k effect h s same hot known told =
-    accounts_none m effect (connected_then m (without_entry e.facts.cid.0 m) effect.machine (gone-connected m e k h s)
-    (same-connected (without_entry e.facts.cid.0 m) effect.machine same)) hot known told
+accounts_gone m e k effect h s same hot known told = grind (arith, accounts_none, connected_then, gone-connected, same-connected)
 
 -- a connection comes that is neither up nor asked
 pub accounts_come : (m : Machine) (new : Entry) (effect : Effect) → is_up_connection (Some new) ≡ false → is_asked_connection (Some new) ≡ false →
     effect.machine ≡ with_new new m → IsTold m effect → Accounts m effect
 accounts_come m new effect up asked same told =
-    accounts_none m effect
-    (subst (NoneConnected m) (sym same) (record { up = come-down is_up_connection refl m new up; asked = come-down is_asked_connection refl m new asked }))
-    (subst (StaysDown is_hot m) (sym same) (λ addr hot. hot)) (subst (StaysDown is_known m) (sym same) (λ addr known. known)) told
+    accounts_none m effect (grind (arith, same, come-down is_up_connection refl m new up, come-down is_asked_connection refl m new asked)) (grind (arith, same)) (grind (arith, same)) told
 
 -- ---- each move keeps a law
 
@@ -90,10 +79,7 @@ pub record Obeys (Law : Move → Type 0) (before : Machine) (effect : Effect) : 
 
 pub obeys_then : (Law : Move → Type 0) (m : Machine) (first : Effect) (next : Machine → Effect) → Obeys Law m first → Obeys Law first.machine (next first.machine) →
     Obeys Law m (then_do first next)
-obeys_then Law m first next one two = record {
-  lawful = all-appended Law first.moves (next first.machine).moves one.lawful two.lawful;
-  accounted = accounts_then m first next one.accounted two.accounted;
-}
+obeys_then Law m first next one two = grind (arith, all-appended Law first.moves (next first.machine).moves one.lawful two.lawful, accounts_then m first next one.accounted two.accounted)
 
 -- what makes no move, leaves the connections, and lets nobody come up
 pub record IsQuiet (before : Machine) (effect : Effect) : Type 0 where
@@ -112,13 +98,8 @@ quiet-obeys Law m effect q = record { lawful = quiet-lawful Law effect q.moves; 
 -- what is neither a connection nor a peer is no matter of either
 pub elsewhere-quiet : (m : Machine) (effect : Effect) → effect.moves ≡ [] → effect.machine.connections ≡ m.connections → effect.machine.peers ≡ m.peers →
     effect.machine.next_id ≡ m.next_id → are_mute effect.actions ≡ true → IsQuiet m effect
-elsewhere-quiet m effect none connections peers next_id silent = record {
-  moves = none;
-  connections = connections;
-  hot = λ addr hot. subst (λ ps. is_hot_peer (peer_in addr ps) ≡ true) peers hot;
-  known = λ addr known. subst (λ ps. is_some (peer_in addr ps) ≡ true) peers known;
-  told = told_unchanged m effect (mute effect.actions silent) none (record { connections = connections; peers = peers; next_id = next_id });
-}
+elsewhere-quiet m effect none connections peers next_id silent =
+    grind (arith, told_unchanged m effect (mute effect.actions silent) none (record { connections = connections; peers = peers; next_id = next_id }), mute effect.actions silent)
 
 -- what is only sent
 pub tells-quiet : (actions : List Action) (m : Machine) → are_mute actions ≡ true → IsQuiet m (tells actions m)
@@ -128,28 +109,14 @@ pub obeys_nothing : (Law : Move → Type 0) (m : Machine) → Obeys Law m (nothi
 obeys_nothing Law m = quiet-obeys Law m (nothing_more m) (tells-quiet [] m refl)
 
 pub quiet_then : (m : Machine) (first : Effect) (next : Machine → Effect) → IsQuiet m first → IsQuiet first.machine (next first.machine) → IsQuiet m (then_do first next)
-quiet_then m first next one two = record {
-  moves = ap (λ ms. ms ++ (next first.machine).moves) one.moves ∙ two.moves;
-  connections = two.connections ∙ one.connections;
-  hot = λ addr h. one.hot addr (two.hot addr h);
-  known = λ addr h. one.known addr (two.known addr h);
-  told = told_then m first next one.told two.told;
-}
+quiet_then m first next one two = grind (arith, told_then m first next one.told two.told)
 
 -- a peer changes, and does not become hot
 pub changes-quiet : (a : Addr) (change : Peer → Peer) (m : Machine) → IsCooling change → IsQuiet m (peer_changes a change m)
-changes-quiet a change m cools = record {
-  moves = turns_at-moves (peer_at a m) change m;
-  connections = turns_at-connections (peer_at a m) change m;
-  hot = changed-hot a change m cools;
-  known = changed-known a change m cools.addr;
-  told = changes-told a change m cools.addr;
-}
+changes-quiet a change m cools = grind (arith, turns_at-moves, turns_at-connections, changed-hot, changed-known, changes-told)
 
 pub lost-quiet : (f : Facts) (m : Machine) → IsQuiet m (lost f m)
-lost-quiet f m = cond_both (is_missed f) (peer_fails f.addr m) (nothing_more m) (λ effect. IsQuiet m effect)
-    (λ missed. changes-quiet f.addr (failed_peer m.now m.settings.backoff) m (record { addr = λ p. refl; hot = λ p hot. absurd (false≢true hot) }))
-    (λ other. tells-quiet [] m refl)
+lost-quiet f m = grind (arith, tells-quiet [] m refl, changes-quiet)
 
 pub lost_by-quiet : (cause : CloseCause) (f : Facts) (m : Machine) → IsQuiet m (lost_by cause f m)
 lost_by-quiet Overwritten f m = tells-quiet [] m refl
@@ -172,26 +139,11 @@ pub comes-machine : (big : Bool) (addr : Addr) (m : Machine) → (peer_comes big
 comes-machine big addr m = note-machine (entry_of addr m.peers) addr (record m { peers = entered (new_peer big addr) m.peers })
 
 pub comes-providing : (big : Bool) (addr : Addr) (m : Machine) → IsProviding m (peer_comes big addr m)
-comes-providing big addr m = record {
-  moves = note-moves (entry_of addr m.peers) addr (record m { peers = entered (new_peer big addr) m.peers });
-  connections = ap (λ n. n.connections) (comes-machine big addr m);
-  hot = subst (StaysDown is_hot m) (sym (comes-machine big addr m)) (entered-hot big addr m);
-  told = peer_comes-told big addr m;
-}
+comes-providing big addr m = grind (arith, comes-machine, is_hot, entered-hot, peer_comes-told, note-moves)
 
 -- as a move
 pub shared-accounts : (big : Bool) (addr : Addr) (m : Machine) → Accounts m (as_move (shared addr) m (peer_comes big addr m))
-shared-accounts big addr m =
-    let effect : Effect = peer_comes big addr m in
-    let provides : IsProviding m effect = comes-providing big addr m in
-    let connected : NoneConnected m effect.machine = same-connected m effect.machine provides.connections in
-    record {
-      promotions = rises_nowhere is_up promotes m (as_move (shared addr) m effect) connected.up;
-      activations = rises_nowhere is_hot_or_asked activates m (as_move (shared addr) m effect) (hot_or_asked-down m effect.machine provides.hot connected.asked);
-      arrivals = rises_said is_known shares (shared addr) m effect
-          (λ b other known. entered-known big addr b m other (subst (λ n. is_known b n ≡ true) (comes-machine big addr m) known));
-      told = told_move (shared addr) m effect refl refl provides.told;
-    }
+shared-accounts big addr m = grind (arith, comes-providing, comes-machine, same-connected, rises_nowhere, hot_or_asked-down, rises_said, entered-known, told_move)
 
 -- ---- a connection turns or goes
 
@@ -236,18 +188,10 @@ pub ending-obeys : (cause : CloseCause) (m : Machine) (e : Entry) (k : ℕ) → 
 ending-obeys cause m e k h s live may crowded =
     let n : Machine = without_entry e.facts.cid.0 m in
     let q : IsQuiet n (lost_by cause e.facts n) = lost_by-quiet cause e.facts n in
-    let move : Move = record { happened = ended e.facts.cid.0 cause; before = m; after = (ending cause e m).machine } in
-    let moves : (ending cause e m).moves ≡ move ∷ [] = ap (λ ms. ms ++ move ∷ []) q.moves in
+    let right = on_stands (λ x. (is_negotiated x.facts ≡ true → IsLateCause cause) × IsPrunedRightly cause x m × FailsWhere (is_failure cause x.facts) x m (ending cause e m).machine) m e k h s
+    (may, crowded, ending-failed cause e m) in
     record {
-      lawful = subst (AllByRecursion IsLawful) (sym moves) (
-        record {
-          back_off = tt;
-          targets = tt;
-          cause = on_stands (λ x. (is_negotiated x.facts ≡ true → IsLateCause cause) × IsPrunedRightly cause x m × FailsWhere (is_failure cause x.facts) x m (ending cause e m).machine) m e k h s
-              (may, crowded, ending-failed cause e m);
-        },
-        tt,
-      );
+      lawful = grind (arith, q.moves, right);
       accounted = accounts_gone m e k (ending cause e m) h s q.connections q.hot q.known (ending-told cause m e k h s live may);
     }
 
@@ -268,16 +212,10 @@ turned_then-obeys Law m e new k next h s t lower forward quiet =
 
 -- what follows on the connection
 succeeds-quiet : (f : Facts) (m : Machine) → IsQuiet m (then_do (peer_succeeds f.addr m) (sends_as_initiator f.cid 8 (written_alive (Ask (f.cid.0 % 65536)))))
-succeeds-quiet f m =
-    let warm : Peer → Peer = λ p. record p { temp = Warm; failures = 0 } in
-    let first : Effect = peer_changes f.addr warm m in
-    quiet_then m first (sends_as_initiator f.cid 8 (written_alive (Ask (f.cid.0 % 65536))))
-    (changes-quiet f.addr warm m (record { addr = λ p. refl; hot = λ p hot. absurd (false≢true hot) }))
-    (tells-quiet (sends_as_initiator f.cid 8 (written_alive (Ask (f.cid.0 % 65536))) first.machine).actions first.machine refl)
+succeeds-quiet f m = grind (arith, quiet_then, changes-quiet, tells-quiet)
 
 asked-before : (m : Machine) (e : Entry) (f : Facts) → is_asked_connection (Some (owing 8 (f.cid.0 % 65536) m (record e { facts = f }))) ≡ true → is_asked_connection (Some e) ≡ true
-asked-before m e f =
-    with_reply-some (λ o. o.protocol == 2) (record { protocol = 8; until = m.now + m.settings.reply; asked = f.cid.0 % 65536 }) e.owed refl
+asked-before m e f = grind (arith, with_reply-some)
 
 pub negotiated-forward : (p q : Phase) → live_phase p ≡ true → is_negotiated_phase q ≡ true → stage_of_phase p ≤ stage_of_phase q
 negotiated-forward p Negotiated live negotiated = live_stage p live
@@ -308,18 +246,12 @@ allowed_within move allowed within = record { back_off = allowed.back_off; targe
 -- the part as a whole is a move, where it is quiet by itself
 pub as_move-obeys : (Law : Move → Type 0) (happened : Happened) (m : Machine) (effect : Effect) → effect.moves ≡ [] →
     Law (record { happened = happened; before = m; after = effect.machine }) → Accounts m (as_move happened m effect) → Obeys Law m (as_move happened m effect)
-as_move-obeys Law happened m effect none law accounted =
-    let move : Move = record { happened = happened; before = m; after = effect.machine } in
-    let moves : (as_move happened m effect).moves ≡ move ∷ [] = ap (λ ms. ms ++ move ∷ []) none in
-    record { lawful = subst (AllByRecursion Law) (sym moves) (law, tt); accounted = accounted }
+as_move-obeys Law happened m effect none law accounted = grind arith
 
 -- a promotion that gives out no id is no dial
 reuse-told : (a : Addr) (m : Machine) (effect : Effect) → effect.machine.next_id ≡ m.next_id → IsTold m effect → IsTold m (as_move (promoted a) m effect)
 reuse-told a m effect same h =
-    let dial : Given = record { cid = m.next_id; addr = a } in
-    told_move (promoted a) m effect refl (subst (λ next. promoted_by_dial (promoted a) m.next_id next ≡ []) (sym same) (by_bool (nat_lt m.next_id m.next_id)
-    (λ b. b ≡ false → (if b then dial ∷ [] else []) ≡ [])
-    (λ here is. absurd (false≢true (sym is))) (λ here is. refl) (not_below m.next_id))) h
+    told_move (promoted a) m effect refl (grind (arith, same, not_below m.next_id)) h
 
 -- a connection that stood comes into use, as a promotion of its address
 pub promoted-obeys : (Law : Move → Type 0) (f : Facts) (m : Machine) (e : Entry) (k : ℕ) (a : Addr) → IsOrderly m → StandsAt m.connections k e → f.cid ≡ e.facts.cid → f.addr ≡ e.facts.addr →

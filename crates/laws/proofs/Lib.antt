@@ -23,6 +23,7 @@ mod Falls
 mod OpenEnds
 mod Lingers
 mod Heats
+mod Cooling
 mod Classes
 mod Ordering
 mod Governing

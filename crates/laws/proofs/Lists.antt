@@ -1,8 +1,7 @@
 -- One element of a list: what is found, what takes its place, and the list without it.
-use Rattle.std.proofs.Common.{nat_lt, ℕ, zero, suc, ◌+◌, ◌<◌, ◌≡◌, Bool, true, false, cond, not, List, [], ◌∷◌, ◌++◌, length, map, filter, find, set, remove, get_or, Some, None, All, AllPairs, sum_by, count_by, flat_map, if◌then◌else◌, refl, sym, ap, ◌∙◌, subst, arith}
+use Rattle.std.proofs.Common.{nat_lt, ℕ, zero, suc, ◌+◌, ◌<◌, ◌≡◌, Bool, true, false, cond, not, List, [], ◌∷◌, ◌++◌, length, map, filter, find, set, remove, get_or, Some, None, All, AllPairs, sum_by, count_by, flat_map, if◌then◌else◌, refl, ap, ◌∙◌, subst, arith}
 use Rattle.laws.proofs.Words.{false_from_ne_true, both_ways, All-head, All-tail, All-cons, All-nil, All-set, All-weaker, AllPairs-cons, sum_by-cons, sum_by-append, sum_by-set, sum_by-remove, get_or-le-sum_by, All-append, All-filter, All-map, All-from_recursion, recursion_from_All, filter_passes, map_fixed, fold-map}
 use Rattle.laws.specs.Words.{AllByRecursion}
-use Rattle.laws.proofs.Cases.{by_bool}
 
 -- no number is below itself
 pub not_below : (n : ℕ) → nat_lt n n ≡ false
@@ -77,8 +76,7 @@ without p xs = filter (λ x. not (p x)) xs
 
 pub replaced_none : {X : Type 0} (p : X → Bool) (new : X) (xs : List X) → All (λ x. p x ≡ false) xs →
     replaced p new xs ≡ xs
-replaced_none p new xs h =
-    map_fixed (λ x. if p x then new else x) xs (All-weaker (λ x. p x ≡ false) (λ x. (if p x then new else x) ≡ x) (λ x fails. rw fails refl) xs h)
+replaced_none p new xs h = grind (arith, map_fixed)
 
 pub without_none : {X : Type 0} (p : X → Bool) (xs : List X) → All (λ x. p x ≡ false) xs → without p xs ≡ xs
 without_none p [] h = refl
@@ -87,8 +85,7 @@ without_none p (x ∷ xs) h = grind (arith, All-head (λ x. p x ≡ false) x xs 
 pub replaced_at : {X : Type 0} (p : X → Bool) (new x : X) (xs : List X) (k : ℕ) → OnePasses p xs → StandsAt xs k x →
     p x ≡ true → replaced p new xs ≡ set xs k new
 replaced_at p new x [] k one s passes = absurd (omega (arith, s.inside))
-replaced_at p new x (y ∷ ys) zero one s passes =
-    grind (arith, ap p s.is ∙ passes, replaced_none p new ys (OnePasses-none_after p y ys one (ap p s.is ∙ passes)))
+replaced_at p new x (y ∷ ys) zero one s passes = grind (arith, replaced_none p new ys (OnePasses-none_after p y ys one (ap p s.is ∙ passes)), OnePasses-none_after p y ys one (ap p s.is ∙ passes))
 replaced_at p new x (y ∷ ys) (suc k) one s passes =
     let rest : StandsAt ys k x = stands_before y x ys k s in
     grind (arith, OnePasses-not_before p y x ys k one rest passes, replaced_at p new x ys k (OnePasses-tail p y ys one) rest passes)
@@ -96,8 +93,7 @@ replaced_at p new x (y ∷ ys) (suc k) one s passes =
 pub without_at : {X : Type 0} (p : X → Bool) (x : X) (xs : List X) (k : ℕ) → OnePasses p xs → StandsAt xs k x →
     p x ≡ true → without p xs ≡ remove xs k
 without_at p x [] k one s passes = absurd (omega (arith, s.inside))
-without_at p x (y ∷ ys) zero one s passes =
-    grind (arith, ap p s.is ∙ passes, without_none p ys (OnePasses-none_after p y ys one (ap p s.is ∙ passes)))
+without_at p x (y ∷ ys) zero one s passes = grind (arith, without_none p ys (OnePasses-none_after p y ys one (ap p s.is ∙ passes)), OnePasses-none_after p y ys one (ap p s.is ∙ passes))
 without_at p x (y ∷ ys) (suc k) one s passes =
     let rest : StandsAt ys k x = stands_before y x ys k s in
     grind (arith, OnePasses-not_before p y x ys k one rest passes, without_at p x ys k (OnePasses-tail p y ys one) rest passes)
@@ -110,20 +106,14 @@ pub record FoundIn {X : Type 0} (p : X → Bool) (xs : List X) (x : X) : Type 0 
 
 pub find_some : {X : Type 0} (p : X → Bool) (xs : List X) (x : X) → find p xs ≡ Some x → FoundIn p xs x
 find_some p [] x e = absurd cc
-find_some {X} p (y ∷ ys) x e = by_bool (p y)
-    (λ b. (find p ys ≡ Some x → FoundIn p ys x) → cond b (Some y) (find p ys) ≡ Some x → FoundIn p (y ∷ ys) x)
-    (λ here later e.
-    let same : y ≡ x = cc in
-    record { place = 0; stands = record { inside = omega arith; is = same }; passes = ap p (sym same) ∙ here })
-    (λ here later e.
-    let found : FoundIn p ys x = later e in
-    record { place = suc found.place; stands = stands_next y x ys found.place found.stands; passes = found.passes }) (find_some p ys x) e
+find_some {X} p (y ∷ ys) x e =
+    let later : find p ys ≡ Some x → FoundIn p (y ∷ ys) x = λ is.
+    let found : FoundIn p ys x = find_some p ys x is in record { place = suc found.place; stands = stands_next y x ys found.place found.stands; passes = found.passes } in
+    grind (arith, later)
 
 pub find_none : {X : Type 0} (p : X → Bool) (xs : List X) → find p xs ≡ None → All (λ x. p x ≡ false) xs
 find_none p [] e = All-nil (λ x. p x ≡ false)
-find_none p (y ∷ ys) e = by_bool (p y)
-    (λ b. (find p ys ≡ None → All (λ x. p x ≡ false) ys) → cond b (Some y) (find p ys) ≡ None → All (λ x. p x ≡ false) (y ∷ ys))
-    (λ here later e. absurd cc) (λ here later e. All-cons (λ x. p x ≡ false) y ys here (later e)) (find_none p ys) e
+find_none p (y ∷ ys) e = grind (arith, find_none p ys)
 
 pub find_only : {X : Type 0} (p : X → Bool) (x : X) (xs : List X) (k : ℕ) → OnePasses p xs → StandsAt xs k x →
     p x ≡ true → find p xs ≡ Some x
@@ -137,14 +127,11 @@ find_only p x (y ∷ ys) (suc k) one s passes =
 pub AllPairs-set : {X : Type 0} (R : X → X → Type 0) (new x : X) (xs : List X) (k : ℕ) → StandsAt xs k x →
     ((y : X) → R y x → R y new) → ((y : X) → R x y → R new y) → AllPairs R xs → AllPairs R (set xs k new)
 AllPairs-set R new x [] k s before after h = absurd (omega (arith, s.inside))
-AllPairs-set R new x (y ∷ ys) zero s before after h =
-    let heads : All (R x) ys = subst (λ z. All (R z) ys) s.is (AllPairs-head R y ys h) in
-    AllPairs-cons R new ys (All-weaker (R x) (R new) after ys heads) (AllPairs-tail R y ys h)
+AllPairs-set R new x (y ∷ ys) zero s before after h = grind (arith, AllPairs-head R y ys h, AllPairs-tail R y ys h)
 AllPairs-set R new x (y ∷ ys) (suc k) s before after h =
     let rest : StandsAt ys k x = stands_before y x ys k s in
     let heads : All (R y) ys = AllPairs-head R y ys h in
-    AllPairs-cons R y (set ys k new) (All-set (R y) ys k new (before y (All-stands (R y) ys k x rest heads)) heads)
-    (AllPairs-set R new x ys k rest before after (AllPairs-tail R y ys h))
+    grind (arith, AllPairs-cons R y, All-set (R y) ys k new, before y, All-stands (R y) ys k x rest, heads, AllPairs-set R new x ys k rest before after (AllPairs-tail R y ys h))
 
 -- how one element stands to all others
 pub All-others : {X : Type 0} (R : X → X → Type 0) → ((y z : X) → R y z → R z y) → (x : X) (xs : List X) (k : ℕ) →
@@ -159,16 +146,11 @@ All-others R turned x (y ∷ ys) (suc k) s h =
 -- sums over a list of which one element has changed or gone
 pub sum_by-replaced : {X : Type 0} (f : X → ℕ) (p : X → Bool) (new x : X) (xs : List X) (k : ℕ) → OnePasses p xs →
     StandsAt xs k x → p x ≡ true → sum_by f (replaced p new xs) + f x ≡ sum_by f xs + f new
-sum_by-replaced f p new x xs k one s passes =
-    let changed : sum_by f (set xs k new) + f (get_or xs k x) ≡ sum_by f xs + f new =
-    sum_by-set f xs k new x s.inside in
-    rw (replaced_at p new x xs k one s passes) (rw s.is at changed)
+sum_by-replaced f p new x xs k one s passes = grind (arith, sum_by-set f xs k new x s.inside, replaced_at p new x xs k one s passes)
 
 pub sum_by-without : {X : Type 0} (f : X → ℕ) (p : X → Bool) (x : X) (xs : List X) (k : ℕ) → OnePasses p xs →
     StandsAt xs k x → p x ≡ true → sum_by f (without p xs) + f x ≡ sum_by f xs
-sum_by-without f p x xs k one s passes =
-    let gone : sum_by f (remove xs k) + f (get_or xs k x) ≡ sum_by f xs = sum_by-remove f xs k x s.inside in
-    rw (without_at p x xs k one s passes) (rw s.is at gone)
+sum_by-without f p x xs k one s passes = grind (arith, sum_by-remove f xs k x s.inside, without_at p x xs k one s passes)
 
 pub sum_by-map : {X Y : Type 0} (f : Y → ℕ) (g : X → Y) (xs : List X) →
     sum_by f (map g xs) ≡ sum_by (λ x. f (g x)) xs
@@ -177,9 +159,7 @@ sum_by-map f g xs = fold-map (λ sum x. sum + f x) g 0 xs
 pub sum_by-flat_map : {X Y : Type 0} (f : Y → ℕ) (g : X → List Y) (xs : List X) →
     sum_by f (flat_map g xs) ≡ sum_by (λ x. sum_by f (g x)) xs
 sum_by-flat_map f g [] = refl
-sum_by-flat_map f g (x ∷ xs) =
-    sum_by-append f (g x) (flat_map g xs)
-    ∙ (ap (λ n. sum_by f (g x) + n) (sum_by-flat_map f g xs) ∙ sym (sum_by-cons (λ y. sum_by f (g y)) x xs))
+sum_by-flat_map f g (x ∷ xs) = grind (arith, sum_by-append f (g x) (flat_map g xs), sum_by-flat_map f g xs, sum_by-cons (λ y. sum_by f (g y)) x xs)
 
 -- none is counted exactly where each one fails
 pub count_by-none : {X : Type 0} (p : X → Bool) (xs : List X) → count_by p xs ≡ 0 → All (λ x. p x ≡ false) xs

@@ -19,25 +19,14 @@ pub record Lowers (gone : ℕ) (before after : Machine) : Type 0 where
   pub late : late_in after + gone ≤ late_in before
 
 pub lowers_nothing : (m : Machine) → IsOrderly m → Lowers 0 m m
-lowers_nothing m h =
-    let late : late_in m + 0 ≤ late_in m = omega arith in
-    let counted : counted_in m ≤ counted_in m = omega arith in
-    assumption
+lowers_nothing m h = grind arith
 
 -- one part after another
 pub lowers_then : (i j : ℕ) (m n o : Machine) → Lowers i m n → Lowers j n o → Lowers (i + j) m o
-lowers_then i j m n o first second = record {
-  orderly = second.orderly;
-  settings = second.settings ∙ first.settings;
-  now = second.now ∙ first.now;
-  counted = omega arith;
-  late = omega arith;
-}
+lowers_then i j m n o first second = grind arith
 
 pub lowers_less : (i j : ℕ) (m n : Machine) → i ≤ j → Lowers j m n → Lowers i m n
-lowers_less i j m n le h =
-    let late : late_in n + i ≤ late_in m = omega (arith, le, h.late) in
-    assumption
+lowers_less i j m n le h = grind arith
 
 -- what is counted, and what is late, where a connection added so much before and adds so much after
 pub record Recounted (counted_before counted_after late_before late_after : ℕ) (before after : Machine) : Type 0 where
@@ -73,20 +62,13 @@ come-counts m new =
 pub goes-lowers : (m : Machine) (e : Entry) (k : ℕ) → IsOrderly m → StandsAt m.connections k e →
     Lowers (late_of m.now e) m (without_entry e.facts.cid.0 m)
 goes-lowers m e k h s =
-    let recounted = gone-counts m e k h s in
-    let counted : counted_in (without_entry e.facts.cid.0 m) ≤ counted_in m = omega (arith, recounted.counted) in
-    let late : late_in (without_entry e.facts.cid.0 m) + late_of m.now e ≤ late_in m = omega (arith, recounted.late) in
-    assumption (gone-orderly m e.facts.cid.0 h)
+    grind (arith, gone-counts m e k h s, late_in (without_entry e.facts.cid.0 m) + late_of m.now e ≤ late_in m, late_of m.now e ≤ late_in m, late_in m, gone-orderly m e.facts.cid.0 h)
 
 -- a connection turns into one that isn't counted where it wasn't, and has fewer late deadlines
 pub turns-lowers : (gone : ℕ) (m : Machine) (old new : Entry) (k : ℕ) → IsOrderly m → StandsAt m.connections k old →
     TurnsInto old new → counted_of new ≤ counted_of old → late_of m.now new + gone ≤ late_of m.now old →
     Lowers gone m (with_entry new m)
-turns-lowers gone m old new k h s t fewer earlier =
-    let recounted = turned-counts m old new k h s t in
-    let counted : counted_in (with_entry new m) ≤ counted_in m = omega (arith, recounted.counted, fewer) in
-    let late : late_in (with_entry new m) + gone ≤ late_in m = omega (arith, recounted.late, earlier) in
-    assumption (turned-orderly m old new k h s t)
+turns-lowers gone m old new k h s t fewer earlier = grind (arith, turned-counts m old new k h s t, late_in (with_entry new m) + gone ≤ late_in m, late_in m, turned-orderly m old new k h s t)
 
 -- the book is no matter of the connections
 pub with_peer-lowers : (m : Machine) (p : Peer) → IsOrderly m → Lowers 0 m (with_peer p m)

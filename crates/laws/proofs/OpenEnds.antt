@@ -1,14 +1,13 @@
 -- A connection that stands open stays so or ends once, in each part of an event.
-use Rattle.std.proofs.Common.{ℕ, ◌+◌, ◌≤◌, ◌≡◌, Bool, true, false, ◌||◌, ◌==◌, nat_lt, if◌then◌else◌, cond, flat_map, List, [], ◌∷◌, ◌++◌, find, Option, Some, None, refl, sym, ap, ◌∙◌, subst, inl, inr, arith, eqb-true}
-use Rattle.laws.proofs.Words.{both_ways, false≢true, or_left, or_right, list_any-append, find-append}
-use Rattle.laws.specs.Words.{Undecoded, list_any, option_map, option_or, dialing, accepted, has_id, is_live, Send, CloseCause, entry_goes, with_entry, without_entry, entry_turns, lost_by, ending, vanishes, closing_entry, dial, Effect, Happened, Move, ended, unused, nothing_more, tells, then_do, as_move, turned_away, admitted, Machine, Entry, fresh_entry, entry_at, peer_changes, peer_goes, peer_at, peer_comes, peer_is_ordinary}
+use Rattle.std.proofs.Common.{ℕ, ◌+◌, ◌≤◌, ◌≡◌, Bool, true, false, ◌||◌, ◌==◌, nat_lt, List, [], ◌∷◌, ◌++◌, Option, Some, None, refl, sym, ap, ◌∙◌, arith}
+use Rattle.laws.proofs.Words.{both_ways, false≢true, or_right, list_any-append, find-append}
+use Rattle.laws.specs.Words.{Undecoded, option_map, dialing, accepted, is_live, Send, CloseCause, entry_goes, with_entry, without_entry, entry_turns, ending, vanishes, dial, Effect, Happened, Move, nothing_more, tells, then_do, as_move, turned_away, admitted, Machine, Entry, fresh_entry, entry_at, peer_changes, peer_goes, peer_at, peer_comes, peer_is_ordinary}
 use Rattle.laws.specs.Acts.{Act, does}
 use Rattle.laws.specs.AtMoves.{ends, is_ended_in}
 use Rattle.laws.specs.OpenEnds.{is_open_entry, is_open_at, goes_by_itself, IsOpenEnd, OpenEndsOnce}
 use Rattle.laws.specs.Parts.{IsNext}
-use Rattle.laws.specs.Stages.{stage_of, stage_at, causes_by, causes_in, IsOneEnd, IsLateCause}
+use Rattle.laws.specs.Stages.{stage_of, stage_at, causes_in, IsLateCause}
 use Rattle.laws.specs.Telling.{IsTold}
-use Rattle.laws.specs.InActions.{ended_by, ends_in}
 use Rattle.laws.proofs.Walk.{Finds, Scope, Stands, Turn, turned_by, turned-cid, turned-live, shuts, Kept, scope_of, walk, own_id}
 use Rattle.laws.proofs.Moments.{turned-found}
 use Rattle.laws.proofs.Lawful.{comes-machine, lost_by-quiet, lost-quiet, live_stage}
@@ -16,7 +15,6 @@ use Rattle.laws.proofs.Telling.{ended-over}
 use Rattle.laws.proofs.ToldMoves.{turns_at-connections}
 use Rattle.laws.proofs.Waits.{replaced, gone-found}
 use Rattle.laws.proofs.WaitsOfParts.{sets_or_changes}
-use Rattle.laws.proofs.Cases.{by_bool, by_option}
 
 -- whoever is so stays so, or a move ends it, or it goes by itself
 abbrev pub StaysOr : (ℕ → Machine → Bool) → (ℕ → Bool) → Machine → Effect → Type 0
@@ -24,19 +22,7 @@ StaysOr is goes m effect = (cid : ℕ) → is cid m ≡ true → (is cid effect.
 
 pub stays_then : (is : ℕ → Machine → Bool) (goes : ℕ → Bool) (m : Machine) (first : Effect) (next : Machine → Effect) → StaysOr is goes m first →
     StaysOr is goes first.machine (next first.machine) → StaysOr is goes m (then_do first next)
-stays_then is goes m first next one two cid was =
-    subst (λ b. (is cid second.machine || (b || goes cid)) ≡ true) (sym (list_any-append (λ x. ends cid x.happened) first.moves second.moves))
-    (by_first (is cid first.machine) (is_ended_in cid first.moves) (goes cid) (one cid was) (two cid))
-  where
-    second : Effect
-    second = next first.machine
-
-    by_first : (a b c : Bool) → (a || (b || c)) ≡ true → (a ≡ true → (is cid second.machine || (is_ended_in cid second.moves || c)) ≡ true) →
-        (is cid second.machine || ((b || is_ended_in cid second.moves) || c)) ≡ true
-    by_first a true c h later = or_right (is cid second.machine) true refl
-    by_first true false c h later = later refl
-    by_first false false true h later = or_right (is cid second.machine) (is_ended_in cid second.moves || true) (or_right (is_ended_in cid second.moves) true refl)
-    by_first false false false h later = absurd (false≢true h)
+stays_then is goes m first next one two cid was = grind (arith, list_any-append)
 
 -- Who lasts, by a test of the connection: it does so while it turns, and where its time-wait is over it may go.
 pub record Lasts (scope : Scope) (test : Option Entry → Bool) (goes : ℕ → Bool) : Type 0 where
@@ -51,49 +37,28 @@ module _ (scope : Scope) (test : Option Entry → Bool) (goes : ℕ → Bool) (l
   Stays m effect = StaysOr (λ cid n. test (entry_at cid n)) goes m effect
 
   stays_same : (m : Machine) (effect : Effect) → effect.machine.connections ≡ m.connections → Stays m effect
-  stays_same m effect same cid was =
-      or_left (test (entry_at cid effect.machine)) (is_ended_in cid effect.moves || goes cid)
-      (ap (λ es. test (find (λ e. has_id cid e.facts) es)) same ∙ was)
+  stays_same m effect same cid was = grind arith
 
   -- every other one is as it was, and its own stays so, or is ended by a move, or goes by itself
   stays_own : (m : Machine) (e : Entry) (effect : Effect) → ((cid : ℕ) → (e.facts.cid.0 == cid) ≡ false → entry_at cid effect.machine ≡ entry_at cid m) →
       (test (entry_at e.facts.cid.0 m) ≡ true → (test (entry_at e.facts.cid.0 effect.machine) || (is_ended_in e.facts.cid.0 effect.moves || goes e.facts.cid.0)) ≡ true) → Stays m effect
-  stays_own m e effect others own cid was = by_bool (e.facts.cid.0 == cid)
-      (λ b. (test (entry_at cid effect.machine) || (is_ended_in cid effect.moves || goes cid)) ≡ true)
-      (λ is.
-      let same : e.facts.cid.0 ≡ cid = eqb-true e.facts.cid.0 cid is in
-      subst (λ c. (test (entry_at c effect.machine) || (is_ended_in c effect.moves || goes c)) ≡ true) same
-      (own (subst (λ c. test (entry_at c m) ≡ true) (sym same) was)))
-      (λ is. or_left (test (entry_at cid effect.machine)) (is_ended_in cid effect.moves || goes cid) (ap test (others cid is) ∙ was))
+  stays_own m e effect others own cid was = grind arith
 
   turned-others : (m : Machine) (e new : Entry) → new.facts.cid ≡ e.facts.cid → (cid : ℕ) → (e.facts.cid.0 == cid) ≡ false → entry_at cid (with_entry new m) ≡ entry_at cid m
-  turned-others m e new same cid other =
-      replaced cid new m.connections
-      ∙ ap (λ b. if b then option_map (λ x. new) (entry_at cid m) else entry_at cid m) (ap (λ c. c.0 == cid) same ∙ other)
+  turned-others m e new same cid other = grind (arith, replaced)
 
   turned-here : (m : Machine) (e new : Entry) → entry_at e.facts.cid.0 m ≡ Some e → new.facts.cid ≡ e.facts.cid → entry_at e.facts.cid.0 (with_entry new m) ≡ Some new
   turned-here m e new stands same = turned-found e new m same ∙ ap (option_map (λ x. new)) stands
 
   turned-stays : (m : Machine) (e new : Entry) → entry_at e.facts.cid.0 m ≡ Some e → new.facts.cid ≡ e.facts.cid → (test (Some e) ≡ true → test (Some new) ≡ true) → Stays m (entry_turns e new m)
-  turned-stays m e new stands same still =
-      stays_own m e (entry_turns e new m) (turned-others m e new same)
-      (λ was. or_left (test (entry_at e.facts.cid.0 (with_entry new m))) (false || goes e.facts.cid.0)
-      (ap test (turned-here m e new stands same) ∙ still (sym (ap test stands) ∙ was)))
+  turned-stays m e new stands same still = grind (arith, turned-others m e new same, turned-here m e new stands same, stays_own)
 
   gone-others : (m : Machine) (e : Entry) (effect : Effect) → effect.machine.connections ≡ (without_entry e.facts.cid.0 m).connections →
       (cid : ℕ) → (e.facts.cid.0 == cid) ≡ false → entry_at cid effect.machine ≡ entry_at cid m
-  gone-others m e effect same cid other =
-      ap (find (λ x. has_id cid x.facts)) same ∙ (gone-found cid e.facts.cid.0 m.connections ∙ ap (λ b. if b then None else entry_at cid m) other)
+  gone-others m e effect same cid other = grind (arith, gone-found)
 
   ending-stays : (cause : CloseCause) (e : Entry) (m : Machine) → Stays m (ending cause e m)
-  ending-stays cause e m =
-      let cid : ℕ = e.facts.cid.0 in
-      let lost : Effect = lost_by cause e.facts (without_entry cid m) in
-      stays_own m e (ending cause e m) (gone-others m e (ending cause e m) (lost_by-quiet cause e.facts (without_entry cid m)).connections)
-      (λ was. or_right (test (entry_at cid (ending cause e m).machine)) (is_ended_in cid (ending cause e m).moves || goes cid)
-      (or_left (is_ended_in cid (ending cause e m).moves) (goes cid)
-      (list_any-append (λ x. ends cid x.happened) lost.moves (record { happened = ended cid cause; before = m; after = (ending cause e m).machine } ∷ [])
-      ∙ or_right (list_any (λ x. ends cid x.happened) lost.moves) ((cid == cid) || false) (or_left (cid == cid) false (own_id cid)))))
+  ending-stays cause e m = grind (arith, stays_own, gone-others, lost_by-quiet, list_any-append, own_id)
 
   vanishes-stays : (e : Entry) (m : Machine) → goes e.facts.cid.0 ≡ true → Stays m (vanishes e m)
   vanishes-stays e m itself =
@@ -102,22 +67,10 @@ module _ (scope : Scope) (test : Option Entry → Bool) (goes : ℕ → Bool) (l
       (λ was. or_right (test (entry_at cid (vanishes e m).machine)) (is_ended_in cid (vanishes e m).moves || goes cid) (or_right (is_ended_in cid (vanishes e m).moves) (goes cid) itself))
 
   come-stays : (m : Machine) (new : Entry) (effect : Effect) → effect.machine.connections ≡ m.connections ++ new ∷ [] → Stays m effect
-  come-stays m new effect same cid was =
-      let found : entry_at cid effect.machine ≡ option_or (entry_at cid m) (cond (has_id cid new.facts) (Some new) None) = ap (find (λ x. has_id cid x.facts)) same ∙ find-append (λ x. has_id cid x.facts) m.connections (new ∷ []) in
-      by_option (entry_at cid m)
-      (λ o. test o ≡ true → (test (entry_at cid effect.machine) || (is_ended_in cid effect.moves || goes cid)) ≡ true)
-      (λ is h. absurd (both_ways (test None) lasts.none h))
-      (λ e is h.
-      or_left (test (entry_at cid effect.machine)) (is_ended_in cid effect.moves || goes cid)
-      (ap test (found ∙ ap (λ o. option_or o (cond (has_id cid new.facts) (Some new) None)) is) ∙ h)) was
+  come-stays m new effect same cid was = grind (arith, find-append)
 
   shut-stays : (e : Entry) (m : Machine) → Stays m (shuts e m)
-  shut-stays e m = stays_own m e (shuts e m) (turned-others m e (closing_entry m e) refl)
-      (λ was. or_right (test (entry_at cid (shuts e m).machine)) (((cid == cid) || false) || goes cid)
-      (or_left ((cid == cid) || false) (goes cid) (or_left (cid == cid) false (own_id cid))))
-    where
-      cid : ℕ
-      cid = e.facts.cid.0
+  shut-stays e m = grind (arith, shuts, turned-others, stays_own, own_id)
 
   over-stays : (e : Entry) (m : Machine) → Stands scope e m → scope.drops ≡ true → (scope.timely ≡ true → is_live e.facts ≡ false) → Stays m (entry_goes e m)
   over-stays e m stands drops closed =
@@ -126,14 +79,7 @@ module _ (scope : Scope) (test : Option Entry → Bool) (goes : ℕ → Bool) (l
 
   -- a move that ends nothing
   moved-stays : (happened : Happened) (m : Machine) (effect : Effect) → Stays m effect → Stays m (as_move happened m effect)
-  moved-stays happened m effect h cid was =
-      subst (λ b. (test (entry_at cid effect.machine) || (b || goes cid)) ≡ true)
-      (sym (list_any-append (λ x. ends cid x.happened) effect.moves (record { happened = happened; before = m; after = effect.machine } ∷ [])))
-      (more (test (entry_at cid effect.machine)) (is_ended_in cid effect.moves) (ends cid happened || false) (goes cid) (h cid was))
-    where
-      more : (a b c d : Bool) → (a || (b || d)) ≡ true → (a || ((b || c) || d)) ≡ true
-      more false false false d e = e
-      more a b c d e = refl
+  moved-stays happened m effect h cid was = grind (arith, list_any-append)
 
   stays-kept : Kept scope Stays
   stays-kept = record {
@@ -161,10 +107,7 @@ module _ (scope : Scope) (test : Option Entry → Bool) (goes : ℕ → Bool) (l
 -- whoever lasts stays so, or a move ends it, or it goes by itself
 pub lasts-of : (test : Option Entry → Bool) (goes : ℕ → Bool) (act : Act) (m : Machine) → Lasts (scope_of act m) test goes → IsNext act m → Finds act m →
     StaysOr (λ cid n. test (entry_at cid n)) goes m (does act m)
-lasts-of test goes act m lasts next found = elim (sets_or_changes act m) [
-  | inl same ↦ stays_same (scope_of act m) test goes lasts m (does act m) same
-  | inr change ↦ walk act m (Stays (scope_of act m) test goes lasts) change next found (stays-kept (scope_of act m) test goes lasts)
-]
+lasts-of test goes act m lasts next found = grind (arith, sets_or_changes act m, scope_of act m, stays-kept (scope_of act m) test goes lasts, stays_same, walk)
 
 -- so does whoever is open
 pub stays-of : (act : Act) (m : Machine) → IsNext act m → Finds act m → StaysOr is_open_at (scope_of act m).goes m (does act m)
@@ -182,20 +125,9 @@ stays-of act m next found = lasts-of is_open_entry (scope_of act m).goes act m
 -- without a cause no move has ended it
 pub uncaused : (cid : ℕ) (moves : List Move) → causes_in cid moves ≡ [] → is_ended_in cid moves ≡ false
 uncaused cid [] h = refl
-uncaused cid (move ∷ moves) h = by_happened move.happened h (uncaused cid moves)
-  where
-    by_id : (own : Bool) (cause : CloseCause) → ((if own then cause ∷ [] else []) ++ causes_in cid moves) ≡ [] → (causes_in cid moves ≡ [] → is_ended_in cid moves ≡ false) →
-        (own || is_ended_in cid moves) ≡ false
-    by_id true cause some later = absurd cc
-    by_id false cause none later = later none
+uncaused cid (move ∷ moves) h = grind (arith, uncaused cid moves)
 
-    by_happened : (happened : Happened) → flat_map (causes_by cid) (ended_by happened ++ ends_in moves) ≡ [] → (causes_in cid moves ≡ [] → is_ended_in cid moves ≡ false) →
-        (ends cid happened || is_ended_in cid moves) ≡ false
-    by_happened (ended old cause) h later = by_id (old == cid) cause h later
-    by_happened (unused old) h later = by_id (old == cid) _ h later
-    by_happened other h later = later h
-
-live-stage : (o : Option Entry) (given : Bool) → is_open_entry o ≡ true → stage_of o given ≤ 3
+pub live-stage : (o : Option Entry) (given : Bool) → is_open_entry o ≡ true → stage_of o given ≤ 3
 live-stage None given h = absurd (false≢true h)
 live-stage (Some e) given h = live_stage e.facts.phase h
 
@@ -203,19 +135,9 @@ live-stage (Some e) given h = live_stage e.facts.phase h
 pub ended_once : (cid : ℕ) (m : Machine) (effect : Effect) (stays itself : Bool) (law : List CloseCause → Type 0) → IsTold m effect →
     (stays || (is_ended_in cid effect.moves || itself)) ≡ true → (stays ≡ true → stage_at cid effect.machine ≤ 3) → ((stays || itself) ≡ true → law []) →
     ((cause : CloseCause) → stays ≡ false → (stage_at cid m ≡ 3 → IsLateCause cause) → law (cause ∷ [])) → law (causes_in cid effect.moves)
-ended_once cid m effect stays itself law told ends open_ none one = by_causes (causes_in cid effect.moves) refl (told.connections cid).ends
-  where
-    without : (a b c : Bool) → b ≡ false → (a || (b || c)) ≡ true → (a || c) ≡ true
-    without true b c none h = refl
-    without false true c none h = absurd (false≢true (sym none))
-    without false false c none h = h
-
-    by_causes : (causes : List CloseCause) → causes_in cid effect.moves ≡ causes → IsOneEnd causes (stage_at cid m) (stage_at cid effect.machine) → law causes
-    by_causes [] is once = none (without stays (is_ended_in cid effect.moves) itself (uncaused cid effect.moves is) ends)
-    by_causes (cause ∷ []) is once =
-        one cause (by_bool stays (λ b. (b ≡ true → stage_at cid effect.machine ≤ 3) → b ≡ false)
-        (λ was low. let early = low refl in let late = once.1 in absurd (omega (arith, early, late, ended-over cause))) (λ gone low. refl) open_) once.2
-    by_causes (cause ∷ other ∷ causes) is once = elim once [ ]
+ended_once cid m effect stays itself law told ends open_ none one =
+    let once = (told.connections cid).ends in
+    grind (arith, once, ends, open_, none, one, uncaused, ended-over)
 
 pub opens-once : (act : Act) (m : Machine) → IsNext act m → Finds act m → IsTold m (does act m) → OpenEndsOnce act m (does act m)
 opens-once act m next found told cid was =

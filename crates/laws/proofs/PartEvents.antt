@@ -180,7 +180,7 @@ items-parts event cid fault (item ∷ items) m f =
       tied = t.ties f.tied;
       open_ = handles-open cid item m f.ordered f.open_;
     }) in
-    (fits tt tt tt f.ordered (trimmed-part f.tied t), rest)
+    (fits tt tt f.tied f.ordered (trimmed-part f.tied t), rest)
 
 fed-parts : (event : Event) (fed : FedBy) (m : Machine) (e : Entry) (k : ℕ) → IsOrdered m → counted_in m ≤ m.settings.hard → IsTied m → StandsAt m.connections k e →
     is_live e.facts ≡ true → EachFits event (acts_fed fed e) m

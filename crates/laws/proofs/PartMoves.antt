@@ -5,7 +5,6 @@ use Rattle.laws.specs.Words.{AllByRecursion, Addr, Event, Effect, for_each, then
 use Rattle.laws.specs.Acts.{Act, ends_dial, is_closed, does, parts_from}
 use Rattle.laws.specs.AtMoves.{IsLawful, is_negotiated_entry, is_negotiated_at, is_ended_in, is_closed_by, is_up, is_hot_or_asked, is_known, promotes, activates, is_provided_by, shares}
 use Rattle.laws.specs.OpenEnds.{is_open_entry, goes_by_itself}
-use Rattle.laws.specs.CarriedOut.{IsDoneByOrder}
 use Rattle.laws.specs.Parts.{IsNext, IsDone, EndsOnce, IsAccounted, IsLawfulPart, RisesBy, Arrives}
 use Rattle.laws.specs.Sends.{Speaks}
 use Rattle.laws.specs.Stages.{stage_of, stage_at}
@@ -20,6 +19,7 @@ use Rattle.laws.proofs.BackOff.{treats, forgives}
 use Rattle.laws.proofs.Begun.{over-after, waits-begin}
 use Rattle.laws.proofs.Goes.{goes-where}
 use Rattle.laws.proofs.Heats.{heats-up}
+use Rattle.laws.proofs.Cooling.{Given, given-order, cools-only}
 use Rattle.laws.proofs.Classes.{keeps-class, keeps-known}
 use Rattle.laws.proofs.Lingers.{lingers}
 use Rattle.laws.proofs.OpenEnds.{StaysOr, stays_then, stays-of, opens-once, ended_once}
@@ -107,13 +107,13 @@ providing-part {event} {m} {effect} p named = search (arith, same-connected, ris
 pub record Fits (event : Event) (act : Act) (m : Machine) : Type 0 where
   pub closes : ClosesBy act event
   pub next : IsNext act m
-  pub order : IsDoneByOrder act m (does act m)
+  pub given : Given act m
   pub found : Finds act m
   pub tells : Tells event m (does act m)
 
-pub fits : {event : Event} {act : Act} {m : Machine} → ClosesBy act event → IsNext act m → IsDoneByOrder act m (does act m) → Finds act m → Tells event m (does act m) →
+pub fits : {event : Event} {act : Act} {m : Machine} → ClosesBy act event → IsNext act m → Given act m → Finds act m → Tells event m (does act m) →
     Fits event act m
-fits closes next order found tells = assumption
+fits closes next given found tells = assumption
 
 ruleset of_the_book = (treats-book, keeps-class, keeps-known, heats-up, forgives, goes-where, pauses-right)
 
@@ -126,6 +126,8 @@ lawful-part event act m h =
     let told = h.tells.told in
     let ends = ends-rightly act m h.found in
     let remembers = treats act m h.found in
+    let order = given-order act m h.given in
+    let cools = cools-only act m h.next h.found h.given in
     search (of_the_book, of_connections, of_actions)
 
 -- ---- one part after the other

@@ -16,7 +16,7 @@ use Rattle.laws.proofs.ToldMoves.{turns_at-connections}
 use Rattle.laws.proofs.Trims.{Goes, goes_among, found_by_id}
 use Rattle.laws.proofs.Waits.{replaced}
 use Rattle.laws.proofs.Walk.{Finds, cooled}
-use Rattle.laws.proofs.Cases.{by_bool, by_option, some_same}
+use Rattle.laws.proofs.Cases.{by_bool, by_option}
 
 -- whoever is chosen may go, or has moved
 pub chosen-goes : (moved : Cid) (m : Machine) → IsOrderly m → (e : Entry) → entry_at (unwrap_or (choice_of (candidates_in m)) moved).0 m ≡ Some e →
@@ -26,10 +26,8 @@ chosen-goes moved m h e is = by_option (first_to_go (candidates_in m)) (λ o. (e
     let found : entry_at moved.0 m ≡ Some e = subst (λ o. entry_at (unwrap_or (option_map (λ c. c.cid) o) moved).0 m ≡ Some e) none is in
     or_left (e.facts.cid.0 == moved.0) (is_candidate e.facts) (find_some (λ x. has_id moved.0 x.facts) m.connections e found).passes)
     (λ c some.
-    let found : entry_at c.cid.0 m ≡ Some e = subst (λ o. entry_at (unwrap_or (option_map (λ x. x.cid) o) moved).0 m ≡ Some e) some is in
     let goes : Goes m.connections c = goes_among m.connections c some in
-    let same = some_same goes.entry e (sym (found_by_id m goes.entry goes.place c.cid h goes.stands goes.facts.same) ∙ found) in
-    or_right (e.facts.cid.0 == moved.0) (is_candidate e.facts) (ap (λ x. is_candidate x.facts) (sym same) ∙ goes.facts.may))
+    grind (arith, is, some, found_by_id m goes.entry goes.place c.cid h goes.stands goes.facts.same, goes.facts.may))
 
 -- and was so before that one has turned
 chosen-went : (m n : Machine) (old new : Entry) → new.facts.cid ≡ old.facts.cid → n.connections ≡ (with_entry new m).connections → IsOrderly n →
@@ -41,9 +39,7 @@ chosen-went m n old new same list h e is =
     subst (λ es. find (λ x. has_id e.facts.cid.0 x.facts) es ≡ Some e) list (found_by_id n e at.place e.facts.cid h at.stands refl) in
     let stood : (e.facts.cid.0 == old.facts.cid.0) ≡ false → entry_at e.facts.cid.0 m ≡ Some e =
     λ apart. grind (arith, apart, same, sym (replaced e.facts.cid.0 new m.connections) ∙ there) in
-    by_bool (e.facts.cid.0 == old.facts.cid.0)
-    (λ b. (b || is_candidate e.facts) ≡ true → (b || is_candidate_entry (entry_at e.facts.cid.0 m)) ≡ true)
-    (λ own may. refl) (λ apart may. ap is_candidate_entry (stood apart) ∙ may) (chosen-goes old.facts.cid n h e is)
+    grind (arith, stood, chosen-goes old.facts.cid n h e is)
 
 -- ---- an item, and a release
 

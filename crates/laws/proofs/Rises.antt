@@ -1,7 +1,7 @@
 -- Who comes up in a part of a step: one is used or on its way to it, is hot or asked to become so, or is known.
-use Rattle.std.proofs.Common.{ℕ, ◌≡◌, Bool, true, false, cond, ◌||◌, if◌then◌else◌, List, [], ◌∷◌, ◌++◌, find, Option, Some, None, is_some, refl, sym, ap, ◌∙◌, subst}
+use Rattle.std.proofs.Common.{ℕ, ◌≡◌, Bool, true, false, cond, ◌||◌, List, [], ◌∷◌, ◌++◌, find, Option, Some, None, is_some, refl, sym, ap, ◌∙◌, subst, arith}
 use Rattle.laws.proofs.Words.{both_ways, false≢true, or_left, or_right, list_any-append}
-use Rattle.laws.specs.Words.{option_map, list_any, same_address, Addr, Peer, is_live, is_live_at, without_peer, new_peer, entered, Machine, Entry, live_entry_at, Effect, Happened, Move, then_do, as_move, peer_at, peer_changes, with_entry, without_entry}
+use Rattle.laws.specs.Words.{option_map, list_any, same_address, Addr, Peer, is_live_at, without_peer, new_peer, entered, Machine, Entry, live_entry_at, Effect, Happened, then_do, as_move, peer_at, peer_changes, with_entry, without_entry}
 use Rattle.peer_book.specs.Book.{peer_at as peer_in, with_new as with_new_in}
 use Rattle.laws.specs.AtMoves.{is_up_connection, is_up, is_hot_peer, is_asked_connection, is_hot_or_asked, is_known}
 use Rattle.laws.specs.Parts.{RisesBy}
@@ -18,17 +18,7 @@ use Rattle.laws.proofs.Cases.{by_bool, by_option}
 
 pub rises_by_then : (is : Addr → Machine → Bool) (says : Addr → Happened → Bool) (m : Machine) (first : Effect) (next : Machine → Effect) → RisesBy is says m first →
     RisesBy is says first.machine (next first.machine) → RisesBy is says m (then_do first next)
-rises_by_then is says m first next one two addr h =
-    let second : Effect = next first.machine in
-    let early : Bool = list_any (λ move. says addr move.happened) first.moves in
-    let late : Bool = list_any (λ move. says addr move.happened) second.moves in
-    subst (λ b. (is addr m || b) ≡ true) (sym (list_any-append (λ move. says addr move.happened) first.moves second.moves))
-    (by_first (is addr first.machine) (is addr m) early late (one addr) (two addr h))
-  where
-    by_first : (b before early late : Bool) → (b ≡ true → (before || early) ≡ true) → (b || late) ≡ true → (before || (early || late)) ≡ true
-    by_first true false false late one two = absurd (false≢true (one refl))
-    by_first false false false late one two = two
-    by_first b before early late one two = refl
+rises_by_then is says m first next one two addr h = grind (arith, list_any-append)
 
 pub more : (a b c : Bool) → (a || b) ≡ true → (a || (b || c)) ≡ true
 more true b c is = refl
@@ -37,27 +27,17 @@ more false b c is = or_left b c is
 -- more moves say more
 pub rises_by_move : (is : Addr → Machine → Bool) (says : Addr → Happened → Bool) (happened : Happened) (m : Machine) (effect : Effect) → RisesBy is says m effect →
     RisesBy is says m (as_move happened m effect)
-rises_by_move is says happened m effect rises addr h =
-    let move : Move = record { happened = happened; before = m; after = effect.machine } in
-    subst (λ b. (is addr m || b) ≡ true) (sym (list_any-append (λ x. says addr x.happened) effect.moves (move ∷ [])))
-    (more (is addr m) (list_any (λ x. says addr x.happened) effect.moves) (list_any (λ x. says addr x.happened) (move ∷ [])) (rises addr h))
+rises_by_move is says happened m effect rises addr h = grind (arith, list_any-append, more)
 
 -- a move says of itself
 said : (says : Addr → Happened → Bool) (happened : Happened) (m : Machine) (effect : Effect) (addr : Addr) → says addr happened ≡ true →
     list_any (λ move. says addr move.happened) (as_move happened m effect).moves ≡ true
-said says happened m effect addr h =
-    let move : Move = record { happened = happened; before = m; after = effect.machine } in
-    list_any-append (λ x. says addr x.happened) effect.moves (move ∷ [])
-    ∙ or_right (list_any (λ x. says addr x.happened) effect.moves) (says addr happened || false) (or_left (says addr happened) false h)
+said says happened m effect addr h = grind (arith, list_any-append)
 
 -- only whom the move is of comes up
 pub rises_said : (is : Addr → Machine → Bool) (says : Addr → Happened → Bool) (happened : Happened) (m : Machine) (effect : Effect) →
     ((addr : Addr) → says addr happened ≡ false → is addr effect.machine ≡ true → is addr m ≡ true) → RisesBy is says m (as_move happened m effect)
-rises_said is says happened m effect others addr h = by_bool (says addr happened)
-    (λ b. (is addr m || list_any (λ move. says addr move.happened) (as_move happened m effect).moves) ≡ true)
-    (λ e.
-    or_right (is addr m) (list_any (λ move. says addr move.happened) (as_move happened m effect).moves) (said says happened m effect addr e))
-    (λ e. or_left (is addr m) (list_any (λ move. says addr move.happened) (as_move happened m effect).moves) (others addr e h))
+rises_said is says happened m effect others addr h = grind (arith, said)
 
 -- ---- nobody comes up
 
@@ -93,16 +73,10 @@ abbrev pub of_connection : (Option Entry → Bool) → Addr → Machine → Bool
 of_connection q addr m = q (live_entry_at addr m)
 
 pub same-connected : (m n : Machine) → n.connections ≡ m.connections → NoneConnected m n
-same-connected m n same = record {
-  up = λ addr h. ap (λ es. is_up_connection (find (λ e. is_live_at addr e.facts) es)) (sym same) ∙ h;
-  asked = λ addr h. ap (λ es. is_asked_connection (find (λ e. is_live_at addr e.facts) es)) (sym same) ∙ h;
-}
+same-connected m n same = grind arith
 
 pub connected_then : (m n o : Machine) → NoneConnected m n → NoneConnected n o → NoneConnected m o
-connected_then m n o one two = record {
-  up = λ addr h. one.up addr (two.up addr h);
-  asked = λ addr h. one.asked addr (two.asked addr h);
-}
+connected_then m n o one two = grind arith
 
 -- the new one is up, or asked, only where the old one was
 pub record IsNoHigher (old new : Entry) : Type 0 where
@@ -111,50 +85,22 @@ pub record IsNoHigher (old new : Entry) : Type 0 where
 
 pub turned-down : (q : Option Entry → Bool) → q None ≡ false → (m : Machine) (e new : Entry) (k : ℕ) → IsOrderly m → StandsAt m.connections k e → TurnsInto e new →
     (q (Some new) ≡ true → q (Some e) ≡ true) → StaysDown (of_connection q) m (with_entry new m)
-turned-down q none m e new k h s t lower addr = by_bool (is_live e.facts)
-    (λ b. q (live_entry_at addr (with_entry new m)) ≡ true → q (live_entry_at addr m) ≡ true)
-    (λ live is. by_address live (same_address addr e.facts.addr) refl is)
-    (λ dead is. ap q (sym (turned_dead m e new k h s t dead addr)) ∙ is)
-  where
-    by_new : (b : Bool) → is_live e.facts ≡ true → q (if b then Some new else None) ≡ true → q (live_entry_at e.facts.addr m) ≡ true
-    by_new true live is = subst (λ o. q o ≡ true) (sym (live_here m e k h s live)) (lower is)
-    by_new false live is = absurd (false≢true (sym none ∙ is))
-
-    by_address : is_live e.facts ≡ true → (b : Bool) → same_address addr e.facts.addr ≡ b → q (live_entry_at addr (with_entry new m)) ≡ true → q (live_entry_at addr m) ≡ true
-    by_address live true same is =
-        subst (λ a. q (live_entry_at a (with_entry new m)) ≡ true → q (live_entry_at a m) ≡ true) (sym (same_address-true addr e.facts.addr same))
-        (λ there. by_new (is_live new.facts) live (ap q (sym (turned_here m e new k h s t live)) ∙ there)) is
-    by_address live false other is = ap q (sym (turned_elsewhere m e new k h s t addr other)) ∙ is
+turned-down q none m e new k h s t lower addr =
+    grind (arith, none, lower, turned_dead m e new k h s t, turned_elsewhere m e new k h s t, turned_here m e new k h s t, live_here m e k h s, same_address-true addr e.facts.addr)
 
 -- a connection turns
 pub turned-connected : (m : Machine) (e new : Entry) (k : ℕ) → IsOrderly m → StandsAt m.connections k e → TurnsInto e new → IsNoHigher e new →
     NoneConnected m (with_entry new m)
-turned-connected m e new k h s t lower = record {
-  up = turned-down is_up_connection refl m e new k h s t lower.up;
-  asked = turned-down is_asked_connection refl m e new k h s t lower.asked;
-}
+turned-connected m e new k h s t lower = grind (arith, turned-down is_up_connection refl m e new k h s t lower.up, turned-down is_asked_connection refl m e new k h s t lower.asked)
 
 gone-down : (q : Option Entry → Bool) → q None ≡ false → (m : Machine) (e : Entry) (k : ℕ) → IsOrderly m → StandsAt m.connections k e →
     StaysDown (of_connection q) m (without_entry e.facts.cid.0 m)
-gone-down q none m e k h s addr = by_bool (is_live e.facts) (λ b. q (live_entry_at addr gone) ≡ true → q (live_entry_at addr m) ≡ true)
-    (λ live is. by_address live (same_address addr e.facts.addr) refl is)
-    (λ dead is. ap q (sym (gone_dead m e k h s dead addr)) ∙ is)
-  where
-    gone : Machine
-    gone = without_entry e.facts.cid.0 m
-
-    by_address : is_live e.facts ≡ true → (b : Bool) → same_address addr e.facts.addr ≡ b → q (live_entry_at addr gone) ≡ true → q (live_entry_at addr m) ≡ true
-    by_address live true same is =
-        let here : live_entry_at addr gone ≡ None = subst (λ a. live_entry_at a gone ≡ None) (sym (same_address-true addr e.facts.addr same)) (gone_here m e k h s live) in
-        absurd (false≢true (sym none ∙ ap q (sym here) ∙ is))
-    by_address live false other is = ap q (sym (gone_elsewhere m e k h s addr other)) ∙ is
+gone-down q none m e k h s addr =
+    grind (arith, none, gone_dead m e k h s, gone_elsewhere m e k h s, gone_here m e k h s, live_here m e k h s, same_address-true addr e.facts.addr)
 
 -- a connection goes
 pub gone-connected : (m : Machine) (e : Entry) (k : ℕ) → IsOrderly m → StandsAt m.connections k e → NoneConnected m (without_entry e.facts.cid.0 m)
-gone-connected m e k h s = record {
-  up = gone-down is_up_connection refl m e k h s;
-  asked = gone-down is_asked_connection refl m e k h s;
-}
+gone-connected m e k h s = grind (arith, gone-down is_up_connection refl m e k h s, gone-down is_asked_connection refl m e k h s)
 
 pushed-down : {X : Type 0} (q : Option X → Bool) (p : X → Bool) (new : X) (xs : List X) → q None ≡ false → q (Some new) ≡ false →
     q (find p (xs ++ new ∷ [])) ≡ true → q (find p xs) ≡ true
@@ -196,10 +142,7 @@ entered-down q new ps b lower = entered-cases new ps (λ qs. q (peer_in b qs) �
     (λ none room. comes (none_there (peer_in new.addr ps) none) (same_address new.addr b) refl)
   where
     comes : peer_in new.addr ps ≡ None → (c : Bool) → same_address new.addr b ≡ c → q (peer_in b (with_new_in new ps)) ≡ true → q (peer_in b ps) ≡ true
-    comes none true e is =
-        let at : new.addr ≡ b = same_address-true new.addr b e in
-        let here : peer_in b (with_new_in new ps) ≡ Some new = subst (λ a. peer_in a (with_new_in new ps) ≡ Some new) at (put_in-here new ps none) in
-        absurd (false≢true (sym (lower e) ∙ ap q (sym here) ∙ is))
+    comes none true e is = grind (arith, same_address-true new.addr b e, put_in-here new ps none)
     comes none false e is = ap q (sym (put_in-elsewhere new b ps (same_turned new.addr b e))) ∙ is
 
 pub entered-hot : (big : Bool) (a : Addr) (m : Machine) → StaysDown is_hot m (record m { peers = entered (new_peer big a) m.peers })
@@ -211,11 +154,7 @@ pub entered-known : (big : Bool) (a b : Addr) (m : Machine) → same_address a b
 entered-known big a b m other h = entered-down is_some (new_peer big a) m.peers b (λ same. absurd (both_ways (same_address a b) other same)) h
 
 taken-down : (q : Option Peer → Bool) → q None ≡ false → (a : Addr) (ps : List Peer) (b : Addr) → q (peer_in b (without_peer a ps)) ≡ true → q (peer_in b ps) ≡ true
-taken-down q none a ps b = by_bool (same_address b a) (λ c. q (peer_in b (without_peer a ps)) ≡ true → q (peer_in b ps) ≡ true)
-    (λ e is.
-    let here : peer_in b (without_peer a ps) ≡ None = subst (λ x. peer_in x (without_peer a ps) ≡ None) (sym (same_address-true b a e)) (taken-here a ps) in
-    absurd (false≢true (sym none ∙ ap q (sym here) ∙ is)))
-    (λ e is. ap q (sym (taken-elsewhere a b ps e)) ∙ is)
+taken-down q none a ps b = grind (arith, taken-here a ps, same_address-true, taken-elsewhere)
 
 -- a peer goes
 pub taken-hot : (a : Addr) (m : Machine) → StaysDown is_hot m (record m { peers = without_peer a m.peers })

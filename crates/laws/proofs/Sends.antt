@@ -1,11 +1,11 @@
 -- What is due is sent, and nothing else.
-use Rattle.std.proofs.Common.{ℕ, ◌+◌, ◌%◌, ◌≡◌, Bool, true, false, ◌&&◌, ◌==◌, if◌then◌else◌, List, [], ◌++◌, Option, Some, None, Result, Ok, Err, refl, sym, ap, ◌∙◌, subst, eqb-true, append-nil}
-use Rattle.laws.proofs.Words.{cond_both, false≢true, flat_map-append}
-use Rattle.laws.specs.Words.{option_map, acquired, agreed_inbound, agreed_outbound, connected, idled, agreed_sharing, has_id, is_acquirable, is_dialing, Order, Ask, Forget, Promote, Release, Activate, Deactivate, answer_of, proposal_of, Verdict, Item, Refused, Query, Fault, FaultKind, Malformed, Protocol, Addr, Cid, Facts, Phase, Greeting, Negotiated, Cold, Warm, watched, Seen, written_alive, written_request, Done, with_entry, entry_turns, ending, is_used, acquire, trim, says_done, release, dial, dial_opens, dial_fails, Effect, nothing_more, then_do, on_entry, dialed, promoted_at, asks_peer, activates, deactivates, carries_out, judged, decided, greets, sends_answer, Machine, Entry, entry_at, live_entry_at, own_info, peer_at, peer_becomes, peer_succeeds, peer_was_asked, owing, reply_on, sends_as_initiator, peer_sharing_done, find_intersect, chain_sync_done, handled_in, handled, stops_if, serves, begins, takes_requests, asked_as, answered_as, talks}
+use Rattle.std.proofs.Common.{ℕ, ◌+◌, ◌%◌, ◌≡◌, Bool, false, ◌&&◌, if◌then◌else◌, List, [], ◌++◌, Option, Some, None, Result, Ok, Err, refl, sym, ap, ◌∙◌, subst, eqb-true, append-nil, arith}
+use Rattle.laws.proofs.Words.{cond_both, flat_map-append}
+use Rattle.laws.specs.Words.{acquired, agreed_inbound, agreed_outbound, agreed_sharing, has_id, is_acquirable, is_dialing, Order, proposal_of, Verdict, Item, Refused, Query, Fault, FaultKind, Malformed, Protocol, Addr, Cid, Facts, Phase, Cold, Warm, Seen, written_alive, written_request, Done, with_entry, entry_turns, ending, is_used, trim, release, dial_opens, Effect, then_do, on_entry, dialed, promoted_at, asks_peer, activates, deactivates, carries_out, judged, decided, greets, sends_answer, Machine, Entry, entry_at, own_info, peer_at, peer_becomes, peer_succeeds, owing, sends_as_initiator, peer_sharing_done, find_intersect, chain_sync_done, handled_in, handled, serves, begins, takes_requests, asked_as, talks}
 use Rattle.laws.specs.Words.verdict
 use Rattle.warm_messages.specs.declared.alive.Alive.TheVariants.{Ask as AskAlive}
-use Rattle.laws.specs.Acts.{Act, asks_for_roots, carries, connects, ends_dial, handles_item, does}
-use Rattle.laws.specs.Sends.{says, keeps_alive, on_one, used_with, due_by_order, answers, comes_into_use, due_by_verdict, by_message, due_in_greeting, SendsInUse, SendsByPhase, SendsOnItem, SendsRight}
+use Rattle.laws.specs.Acts.{Act, does}
+use Rattle.laws.specs.Sends.{says, keeps_alive, on_one, due_by_order, answers, comes_into_use, due_by_verdict, by_message, due_in_greeting, SendsInUse, SendsByPhase, SendsOnItem, SendsRight}
 use Rattle.laws.specs.Served.{Sent, sent_by, sent_in}
 use Rattle.laws.specs.Parts.{IsNext}
 use Rattle.laws.proofs.ItemCases.{greets-due}
@@ -14,7 +14,7 @@ use Rattle.laws.proofs.Moments.{turned-found}
 use Rattle.laws.proofs.Walk.{is_released, turned_by, cooled, on_those, says_done-machine, replies-machine, Finds, answer-machine}
 use Rattle.laws.proofs.Silent.{sent-deaf, turns-silent, changed-silent, ending-silent, vanishes-silent, trim-silent, connects-silent, begins-silent, answered-silent, asks-silent, quiet-silent}
 use Rattle.laws.proofs.WaitsOfParts.{changed-waits}
-use Rattle.laws.proofs.Cases.{by_bool, by_option}
+use Rattle.laws.proofs.Cases.{by_option}
 
 -- ---- one part after the other
 
@@ -35,9 +35,7 @@ then-sent first next xs one two = then-sends first next xs [] one two ∙ append
 -- ---- a dial ends
 
 opens-sends : (e : Entry) (m : Machine) → sent_in (dial_opens e m).actions ≡ says e.facts.cid.0 0 0 (proposal_of (own_info m.settings)) m
-opens-sends e m =
-    let new : Entry = record e { facts = connected (m.now + m.settings.handshake) e.facts } in
-    then-silent (entry_turns e new m) (sends_as_initiator e.facts.cid 0 (proposal_of (own_info m.settings))) (says e.facts.cid.0 0 0 (proposal_of (own_info m.settings)) m) (turns-silent sent_by sent-deaf e new m) refl
+opens-sends e m = grind (arith, then-silent, turns-silent, sent-deaf)
 
 -- ---- orders
 
@@ -64,30 +62,16 @@ gives_up-silent e m =
 
 release-sends : (e : Entry) (m : Machine) → sent_in (release e m).actions
     ≡ (if agreed_sharing e.facts.agreed then says e.facts.cid.0 0 10 peer_sharing_done m else []) ++ says e.facts.cid.0 0 8 (written_alive Done) m
-release-sends e m =
-    then-sent (says_done e.facts m) (gives_up e) ((if agreed_sharing e.facts.agreed then says e.facts.cid.0 0 10 peer_sharing_done m else []) ++ says e.facts.cid.0 0 8 (written_alive Done) m)
-    (by_bool (agreed_sharing e.facts.agreed)
-    (λ b. sent_in (then_do (if b then sends_as_initiator e.facts.cid 10 peer_sharing_done m else nothing_more m) (sends_as_initiator e.facts.cid 8 (written_alive Done))).actions
-    ≡ (if b then says e.facts.cid.0 0 10 peer_sharing_done m else []) ++ says e.facts.cid.0 0 8 (written_alive Done) m)
-    (λ sharing. refl) (λ other. refl))
-    (subst (λ w. sent_in (gives_up e w).actions ≡ []) (sym (says_done-machine e.facts m)) (gives_up-silent e m))
+release-sends e m = grind (arith, says_done-machine, gives_up-silent, then-sent)
 
 asks_peer-sends : (n : ℕ) (e : Entry) (m : Machine) → sent_in (asks_peer n e m).actions ≡ says e.facts.cid.0 0 10 (written_request n) m
-asks_peer-sends n e m =
-    let new : Entry = owing 10 n m e in
-    let o : Machine = with_entry new m in
-    then-sent (sends_as_initiator e.facts.cid 10 (written_request n) m)
-    (λ x. then_do (entry_turns e (owing 10 n x e) x) (λ y. peer_was_asked (y.now + y.settings.sharegap) e.facts.addr y)) (says e.facts.cid.0 0 10 (written_request n) m) refl
-    (then-silent (entry_turns e new m) (λ y. peer_was_asked (y.now + y.settings.sharegap) e.facts.addr y) [] (turns-silent sent_by sent-deaf e new m) (changed-silent sent_by sent-deaf (peer_at e.facts.addr o) (λ p. record p { share_next = m.now + m.settings.sharegap }) o))
+asks_peer-sends n e m = grind (arith, then-sent, then-silent, turns-silent, sent-deaf, changed-silent)
 
 activates-sends : (e : Entry) (m : Machine) → sent_in (activates e m).actions ≡ says e.facts.cid.0 0 2 find_intersect m
-activates-sends e m =
-    then-sent (sends_as_initiator e.facts.cid 2 find_intersect m) (λ n. entry_turns e (owing 2 0 n e) n) (says e.facts.cid.0 0 2 find_intersect m) refl (turns-silent sent_by sent-deaf e (owing 2 0 m e) m)
+activates-sends e m = grind arith
 
 deactivates-sends : (e : Entry) (m : Machine) → sent_in (deactivates e m).actions ≡ says e.facts.cid.0 0 2 chain_sync_done m
-deactivates-sends e m =
-    then-sent (sends_as_initiator e.facts.cid 2 chain_sync_done m) (peer_becomes Warm e.facts.addr) (says e.facts.cid.0 0 2 chain_sync_done m) refl
-    (changed-silent sent_by sent-deaf (peer_at e.facts.addr m) (λ p. record p { temp = Warm }) m)
+deactivates-sends e m = grind (arith, then-sent, changed-silent, sent-deaf)
 
 on_used-sends : (o : Option Entry) (act : Entry → Machine → Effect) (m : Machine) (due : Entry → List Sent) → ((e : Entry) → sent_in (act e m).actions ≡ due e) →
     sent_in (on_entry o act m).actions ≡ on_one o due
@@ -97,19 +81,10 @@ on_used-sends (Some e) act m due each = each e
 promoted_at-sends : (o : Option Entry) (addr : Addr) (m : Machine) →
     sent_in (promoted_at o addr m).actions ≡ on_one o (λ e. if is_acquirable e.facts then keeps_alive e.facts.cid.0 m else [])
 promoted_at-sends None addr m = refl
-promoted_at-sends (Some e) addr m = by_bool (is_acquirable e.facts)
-    (λ b. sent_in (if b then acquire e m else dial addr m).actions ≡ (if b then keeps_alive e.facts.cid.0 m else []))
-    (λ is. used-sends (acquired e.facts) e m) (λ is. refl)
+promoted_at-sends (Some e) addr m = grind (arith, used-sends (acquired e.facts) e m)
 
 orders-send : (order : Order) (m : Machine) → sent_in (carries_out order m).actions ≡ due_by_order order m
-orders-send (Ask addr n) m = on_used-sends (used_with addr m) (asks_peer n) m (λ e. says e.facts.cid.0 0 10 (written_request n) m) (λ e. asks_peer-sends n e m)
-orders-send (Forget addr) m = refl
-orders-send (Promote addr) m = promoted_at-sends (live_entry_at addr m) addr m
-orders-send (Release addr) m =
-    on_used-sends (used_with addr m) release m
-    (λ e. (if agreed_sharing e.facts.agreed then says e.facts.cid.0 0 10 peer_sharing_done m else []) ++ says e.facts.cid.0 0 8 (written_alive Done) m) (λ e. release-sends e m)
-orders-send (Activate addr) m = on_used-sends (used_with addr m) activates m (λ e. says e.facts.cid.0 0 2 find_intersect m) (λ e. activates-sends e m)
-orders-send (Deactivate addr) m = on_used-sends (used_with addr m) deactivates m (λ e. says e.facts.cid.0 0 2 chain_sync_done m) (λ e. deactivates-sends e m)
+orders-send order m = grind (arith, on_used-sends, asks_peer-sends, promoted_at-sends, release-sends, activates-sends, deactivates-sends)
 
 -- ---- the handshake
 
@@ -125,11 +100,7 @@ answer-sends None cid m = refl
 answer-sends (Some bytes) cid m = refl
 
 pub decided-sends : (v : Verdict) (e : Entry) (m : Machine) → sent_in (decided v e m).actions ≡ due_by_verdict v e.facts.cid.0 m
-decided-sends v e m =
-    let answer : Option (List ℕ) = answer_of v (own_info m.settings) in
-    then-sends (sends_answer answer e.facts.cid m) (judged v e) (answers answer e.facts.cid.0 m) (if comes_into_use v then keeps_alive e.facts.cid.0 m else [])
-    (answer-sends answer e.facts.cid m)
-    (subst (λ n. sent_in (judged v e n).actions ≡ (if comes_into_use v then keeps_alive e.facts.cid.0 m else [])) (sym (answer-machine answer e.facts.cid m)) (judged-sends v e m))
+decided-sends v e m = grind (arith, judged-sends, then-sends, answer-sends, answer-machine)
 
 greets-sends : (item : Item) (e : Entry) (m : Machine) → sent_in (greets item e m).actions ≡ due_in_greeting item e.facts m
 greets-sends item e m = greets-due by_message [] (λ v. due_by_verdict v e.facts.cid.0 m) item e m (λ effect due. sent_in effect.actions ≡ due)
@@ -139,13 +110,7 @@ greets-sends item e m = greets-due by_message [] (λ v. due_by_verdict v e.facts
 
 -- who is served stands
 serves-stands : (seen : Seen) (protocol : ℕ) (f : Entry) (m : Machine) → entry_at f.facts.cid.0 m ≡ Some f → entry_at f.facts.cid.0 (serves seen protocol f m).machine ≡ None → ⊥
-serves-stands seen protocol f m stands =
-    subst (λ n. entry_at f.facts.cid.0 (stops_if seen.done protocol f n).machine ≡ None → ⊥) (sym (replies-machine seen.reply protocol f m)) (by_bool seen.done
-    (λ b. entry_at f.facts.cid.0 (stops_if b protocol f m).machine ≡ None → ⊥)
-    (λ is gone.
-    let new : Entry = record f { facts = idled protocol (m.now + m.settings.idle) f.facts } in
-    let there : Some new ≡ None = sym (turned-found f new m refl ∙ ap (option_map (λ x. new)) stands) ∙ gone in absurd cc)
-    (λ is gone. let there : Some f ≡ None = sym stands ∙ gone in absurd cc))
+serves-stands seen protocol f m stands = grind (arith, replies-machine seen.reply protocol f m, turned-found)
 
 -- nothing is sent to one that has ended
 asked-gone : (r : Result Seen FaultKind) (protocol : ℕ) (e : Entry) (m : Machine) → entry_at e.facts.cid.0 (asked_as r protocol e m).machine ≡ None →
@@ -164,37 +129,19 @@ asked-gone (Ok seen) protocol e m =
     (subst (λ c. entry_at c (serves seen protocol f first.machine).machine ≡ None) (sym same) gone)))) (λ other gone. ending-silent sent_by sent-deaf (Fault Protocol) e m)
 
 talks-sends : (item : Item) (e : Entry) (m : Machine) → SendsInUse item e (talks item e m)
-talks-sends item e m =
-    let asks : Effect = asked_as (watched item.id (agreed_sharing e.facts.agreed) item.body) item.id e m in
-    record {
-      answer = λ other. subst (λ b. sent_in (if b then asks else answered_as (reply_on item.id e) item e m).actions ≡ []) (sym other) (answered-silent sent_by sent-deaf (reply_on item.id e) item e m);
-      gone = cond_both (item.side == 0) asks (answered_as (reply_on item.id e) item e m) (λ effect. entry_at e.facts.cid.0 effect.machine ≡ None → sent_in effect.actions ≡ [])
-          (λ first. asked-gone (watched item.id (agreed_sharing e.facts.agreed) item.body) item.id e m) (λ other gone. answered-silent sent_by sent-deaf (reply_on item.id e) item e m);
-    }
+talks-sends item e m = grind (arith, answered-silent, sent-deaf, asked-gone)
 
 -- ---- each act
 
 handled-sends : (p : Phase) (item : Item) (e : Entry) (m : Machine) → SendsByPhase p item e m (handled_in p item e m)
-handled-sends (Greeting until) item e m = greets-sends item e m
-handled-sends Negotiated item e m = talks-sends item e m
-handled-sends other item e m = refl
+handled-sends p item e m = grind (arith, greets-sends, talks-sends)
 
 item-sends : (o : Option Entry) (item : Item) (m : Machine) → SendsOnItem o item m (on_entry o (handled item) m)
 item-sends None item m = refl
 item-sends (Some e) item m = handled-sends e.facts.phase item e m
 
 dialed-sends : (opened : Bool) (e : Entry) (m : Machine) → sent_in (dialed opened e m).actions ≡ (if is_dialing e.facts && opened then says e.facts.cid.0 0 0 (proposal_of (own_info m.settings)) m else [])
-dialed-sends opened e m = by_tests (is_dialing e.facts) opened
-  where
-    by_tests : (b c : Bool) → sent_in (if b then (if c then dial_opens e m else dial_fails e m) else nothing_more m).actions ≡ (if b && c then says e.facts.cid.0 0 0 (proposal_of (own_info m.settings)) m else [])
-    by_tests true true = opens-sends e m
-    by_tests true false = vanishes-silent sent_by sent-deaf e m
-    by_tests false c = refl
+dialed-sends opened e m = grind (arith, opens-sends, vanishes-silent, sent-deaf)
 
 pub sends-right : (act : Act) (m : Machine) → IsNext act m → Finds act m → SendsRight act m (does act m)
-sends-right asks_for_roots m next found = asks-silent sent_by (λ job. refl) m
-sends-right (carries order) m next found = orders-send order m
-sends-right (connects addr) m next found = connects-silent sent_by sent-deaf (λ cid to. refl) (λ why. refl) (λ length. refl) addr m
-sends-right (ends_dial cid opened) m next found = on_used-sends (entry_at cid.0 m) (dialed opened) m (λ e. if is_dialing e.facts && opened then says e.facts.cid.0 0 0 (proposal_of (own_info m.settings)) m else []) (λ e. dialed-sends opened e m)
-sends-right (handles_item cid item) m next found = item-sends (entry_at cid.0 m) item m
-sends-right other m next found = quiet-silent sent_by sent-deaf other m tt (λ never. absurd (false≢true never)) next found
+sends-right act m next found = grind (arith, asks-silent, orders-send, connects-silent, sent-deaf, on_used-sends, dialed-sends, item-sends, quiet-silent)

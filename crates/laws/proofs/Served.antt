@@ -1,9 +1,8 @@
 -- What is answered to what the other side asks.
 use Rattle.std.proofs.Common.{ℕ, ◌<◌, ◌≤◌, ◌≡◌, Bool, true, false, not, ◌&&◌, ◌||◌, ◌==◌, min, if◌then◌else◌, List, [], ◌∷◌, ◌++◌, length, map, filter, is_some, Option, Some, None, Result, Ok, Err, refl, sym, ap, ◌∙◌, subst, arith, eqb-true, append-nil}
 use Rattle.laws.proofs.Words.{cond_both, false≢true, flat_map-append, position-Some, told_by_group, told_by_roots, each_of_front, told_are_few, list_any_at}
-use Rattle.laws.specs.Words.{AllByRecursion, list_any, has_id, is_negotiated_phase, agreed_sharing, frame_of, Item, same_address, Fault, FaultKind, Protocol, Addr, Cid, Phase, Negotiated, Group, Peer, addresses_of, watched, Reply, Seen, is_listed, group_of, is_advertised, most_told, served_to, ending, idle, Effect, then_do, on_entry, Machine, Entry, entry_at, reply_on, handled_in, handled, replies, stops_if, serves, begins, takes_requests, asked_as, answered_as, on_connection}
+use Rattle.laws.specs.Words.{AllByRecursion, list_any, has_id, is_negotiated_phase, agreed_sharing, frame_of, Item, same_address, Fault, FaultKind, Protocol, Addr, Cid, Phase, Negotiated, Group, Peer, addresses_of, watched, Reply, Seen, is_listed, group_of, is_advertised, most_told, served_to, ending, Effect, then_do, on_entry, Machine, Entry, entry_at, reply_on, handled_in, handled, replies, serves, begins, takes_requests, asked_as, answered_as, on_connection}
 use Rattle.peer_book.specs.Book.{peer_at as peer_in}
-use Rattle.laws.specs.Words.reply
 use Rattle.laws.specs.Acts.{Act, handles_item, does}
 use Rattle.laws.specs.Laws.{is_local}
 use Rattle.laws.specs.Responders.{WhereSeen, WhereAsked, WhereThere}
@@ -36,10 +35,7 @@ advertised-tellable m addr h =
 
 book-known : (ps : List Peer) → AllByRecursion (λ a. is_some (peer_in a ps) ≡ true) (addresses_of ps)
 book-known [] = tt
-book-known (p ∷ ps) = (
-  rw (same_address-self p.addr) refl,
-  all-weaker (λ a. is_some (peer_in a ps) ≡ true) (λ a. is_some (peer_in a (p ∷ ps)) ≡ true) (λ a there. grind (arith, there)) (addresses_of ps) (book-known ps),
-)
+book-known (p ∷ ps) = grind (arith, same_address-self p.addr, book-known ps, all-weaker)
 
 served-each : (asker : Addr) (n : ℕ) (m : Machine) → AllByRecursion (MayBeTold asker m) (served_to asker n m.peers m.groups m.roots.publics)
 served-each asker n m =
@@ -60,32 +56,11 @@ record Answering (protocol : ℕ) (asker : Addr) (cid now : ℕ) (r : Reply) (af
   sends : sent ≡ map (λ message. record { cid = cid; bytes = frame_of 1 protocol now message }) (messages_of r told)
 
 replies-answer : (r : Reply) (protocol : ℕ) (f : Entry) (m : Machine) → Answering protocol f.facts.addr f.facts.cid.0 m.now r m (sent_in (replies r protocol f m).actions)
-replies-answer (reply.Share n) protocol f m = record {
-  told = served_to f.facts.addr n m.peers m.groups m.roots.publics;
-  few = let few = told_are_few f.facts.addr n m.peers m.groups m.roots.publics in omega (arith, few);
-  each = served-each f.facts.addr n m;
-  sends = refl;
-}
-replies-answer other protocol f m = record { told = []; few = omega arith; each = tt; sends = refl }
+replies-answer r protocol f m = grind (arith, told_are_few, served-each)
 
 serves-answer : (seen : Seen) (protocol : ℕ) (f : Entry) (m : Machine) →
     Answering protocol f.facts.addr f.facts.cid.0 m.now seen.reply (serves seen protocol f m).machine (sent_in (serves seen protocol f m).actions)
-serves-answer seen protocol f m =
-    let first : Effect = replies seen.reply protocol f m in
-    let a : Answering protocol f.facts.addr f.facts.cid.0 m.now seen.reply m (sent_in first.actions) = replies-answer seen.reply protocol f m in
-    record {
-      told = a.told;
-      few = a.few;
-      each = subst (λ n. AllByRecursion (MayBeTold f.facts.addr (stops_if seen.done protocol f n).machine) a.told) (sym (replies-machine seen.reply protocol f m))
-          (by_done seen.done a.told a.each);
-      sends = flat_map-append sent_by first.actions (stops_if seen.done protocol f first.machine).actions
-          ∙ (ap (λ xs. sent_in first.actions ++ xs) (stops-silent sent_by sent-deaf seen.done protocol f first.machine) ∙ (append-nil (sent_in first.actions) ∙ a.sends));
-    }
-  where
-    by_done : (b : Bool) (told : List Addr) → AllByRecursion (MayBeTold f.facts.addr m) told → AllByRecursion (MayBeTold f.facts.addr (stops_if b protocol f m).machine) told
-    by_done true told each = all-weaker (MayBeTold f.facts.addr m) (MayBeTold f.facts.addr (idle protocol f m).machine)
-        (λ a may. record { known = may.known; tellable = may.tellable; other = may.other }) told each
-    by_done false told each = each
+serves-answer seen protocol f m = grind (arith, replies-answer seen.reply protocol f m, replies-machine seen.reply protocol f m, flat_map-append, stops-silent, sent-deaf, append-nil, all-weaker)
 
 asked-answer : (seen : Seen) (item : Item) (e : Entry) (m : Machine) → e.facts.cid.0 < m.next_id → entry_at e.facts.cid.0 m ≡ Some e →
     WhereThere (entry_at e.facts.cid.0 (asked_as (Ok seen) item.id e m).machine) (λ f. IsAnswered item e seen m (asked_as (Ok seen) item.id e m))

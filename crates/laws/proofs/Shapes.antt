@@ -1,9 +1,8 @@
 -- Each move keeps the facts of a connection in shape.
-use Rattle.std.proofs.Common.{ℕ, ◌≡◌, Bool, true, false, not, ◌||◌, ◌&&◌, if◌then◌else◌, refl, sym, ap, ◌∙◌}
-use Rattle.laws.proofs.Words.{false≢true, both_ways, and_parts, not-true, or_right, or_left, cond_both}
+use Rattle.std.proofs.Common.{ℕ, ◌≡◌, Bool, true, false, not, ◌||◌, if◌then◌else◌, refl, arith}
+use Rattle.laws.proofs.Words.{false≢true, both_ways}
 use Rattle.laws.specs.Words.{Addr, Agreed, Facts, Grace, Off, ForRemote, ForLocal, Phase, Negotiated, accepted, dialing, connected, agreed_inbound, agreed_outbound, acquired, released, awakened, idled, expired, closing, is_negotiated, is_negotiated_phase, is_dialing, is_dialing_phase, is_greeting, is_greeting_phase, is_outbound, is_duplex, is_for_remote, is_for_local, some_runs, is_acquirable}
 use Rattle.laws.specs.Steady.{IsShaped, IsUnused}
-use Rattle.laws.proofs.Cases.{by_bool}
 
 -- ---- phases exclude each other
 
@@ -19,50 +18,25 @@ greeting-unnegotiated other h = refl
 
 -- whatever stands before the handshake or after the end
 pub unused-shaped : (f : Facts) → IsUnused f → is_negotiated f ≡ false → (is_dialing f ≡ true → is_outbound f ≡ true) → IsShaped f
-unused-shaped f u phase dials = record {
-  unused = λ h. u;
-  dialing = dials;
-  remote = λ h. u.grace;
-  kept = λ h. ap is_for_local u.grace;
-  idle = λ h. absurd (both_ways (is_negotiated f) phase h);
-  serves_remote = λ h. absurd (false≢true (sym (ap (λ b. b || is_for_remote f.grace) u.running ∙ ap is_for_remote u.grace) ∙ h));
-  serves_local = λ h. absurd (both_ways f.local u.local h);
-}
+unused-shaped f u phase dials = grind arith
 
 pub accepted-shaped : (cid : ℕ) (addr : Addr) (until : ℕ) → IsShaped (accepted cid addr until)
-accepted-shaped cid addr until =
-    unused-shaped (accepted cid addr until) (record { agreed = refl; local = refl; running = refl; grace = refl }) refl
-    (λ h. absurd (false≢true h))
+accepted-shaped cid addr until = grind (arith, unused-shaped)
 
 pub dialing-shaped : (cid : ℕ) (addr : Addr) → IsShaped (dialing cid addr)
-dialing-shaped cid addr =
-    unused-shaped (dialing cid addr) (record { agreed = refl; local = refl; running = refl; grace = refl }) refl (λ h. refl)
+dialing-shaped cid addr = grind arith
 
 pub connected-shaped : (until : ℕ) (f : Facts) → IsShaped f → is_dialing f ≡ true → IsShaped (connected until f)
-connected-shaped until f h dials =
-    let u : IsUnused f = h.unused (dialing-unnegotiated f.phase dials) in
-    unused-shaped (connected until f) (record { agreed = u.agreed; local = u.local; running = u.running; grace = u.grace }) refl
-    (λ greets. absurd (false≢true greets))
+connected-shaped until f h dials = grind (arith, h.unused (dialing-unnegotiated f.phase dials), dialing-unnegotiated f.phase dials, unused-shaped)
 
 pub closing-shaped : (until : ℕ) (f : Facts) → IsShaped (closing until f)
-closing-shaped until f =
-    unused-shaped (closing until f) (record { agreed = refl; local = refl; running = refl; grace = refl }) refl
-    (λ h. absurd (false≢true h))
+closing-shaped until f = grind (arith, unused-shaped)
 
 -- ---- the end of a handshake
 
 pub agreed_inbound-shaped : (agreed : Agreed) (until : ℕ) (f : Facts) → IsShaped f → is_greeting f ≡ true →
     is_outbound f ≡ false → IsShaped (agreed_inbound agreed until f)
-agreed_inbound-shaped agreed until f h greets inbound =
-    let u : IsUnused f = h.unused (greeting-unnegotiated f.phase greets) in record {
-      unused = λ e. absurd (false≢true (sym e));
-      dialing = λ e. absurd (false≢true e);
-      remote = λ runs. absurd (both_ways (some_runs f.running) u.running runs);
-      kept = λ local. refl;
-      idle = λ phase local runs. refl;
-      serves_remote = λ serves. rw inbound refl;
-      serves_local = λ local. absurd (both_ways f.local u.local local);
-    }
+agreed_inbound-shaped agreed until f h greets inbound = grind (arith, greeting-unnegotiated f.phase greets)
 
 or_false : (b : Bool) → (b || false) ≡ true → b ≡ true
 or_false true e = refl
@@ -76,26 +50,15 @@ outbound_grace-serves false false runs until none serves = refl
 
 pub agreed_outbound-shaped : (agreed : Agreed) (until : ℕ) (f : Facts) → IsShaped f → is_greeting f ≡ true →
     is_outbound f ≡ true → IsShaped (agreed_outbound agreed until f)
-agreed_outbound-shaped agreed until f h greets outbound =
-    let u : IsUnused f = h.unused (greeting-unnegotiated f.phase greets) in record {
-      unused = λ e. absurd (false≢true (sym e));
-      dialing = λ e. absurd (false≢true e);
-      remote = λ runs. absurd (both_ways (some_runs f.running) u.running runs);
-      kept = λ local. cond_both agreed.initiator_only Off (ForRemote until) (λ g. is_for_local g ≡ false) (λ alone. refl) (λ both. refl);
-      idle = λ phase local runs. absurd (false≢true (sym local));
-      serves_remote = λ serves. outbound_grace-serves agreed.initiator_only (is_outbound f) (some_runs f.running) until u.running serves;
-      serves_local = λ local. rw outbound refl;
-    }
+agreed_outbound-shaped agreed until f h greets outbound = grind arith
 
 -- ---- what is in use is negotiated
 
 pub local-negotiated : (f : Facts) → IsShaped f → f.local ≡ true → is_negotiated f ≡ true
-local-negotiated f h local = by_bool (is_negotiated f) (λ b. is_negotiated f ≡ true)
-    (λ e. e) (λ e. absurd (both_ways f.local (h.unused e).local local))
+local-negotiated f h local = grind arith
 
 pub running-negotiated : (f : Facts) → IsShaped f → some_runs f.running ≡ true → is_negotiated f ≡ true
-running-negotiated f h runs = by_bool (is_negotiated f) (λ b. is_negotiated f ≡ true)
-    (λ e. e) (λ e. absurd (both_ways (some_runs f.running) (h.unused e).running runs))
+running-negotiated f h runs = grind arith
 
 abbrev pub serves_remote : Facts → Bool
 serves_remote f = not (is_outbound f) || is_duplex f
@@ -109,23 +72,10 @@ pub record CanAcquire (f : Facts) : Type 0 where
   pub not_kept : is_for_local f.grace ≡ false
 
 pub can_acquire : (f : Facts) → is_acquirable f ≡ true → CanAcquire f
-can_acquire f h =
-    let last = and_parts (is_negotiated f && is_duplex f && not f.local) (not (is_for_local f.grace)) h in
-    let third = and_parts (is_negotiated f && is_duplex f) (not f.local) last.0 in
-    let first = and_parts (is_negotiated f) (is_duplex f) third.0 in
-    record { negotiated = first.0; duplex = first.1; idle = not-true f.local third.1; not_kept = not-true (is_for_local f.grace) last.1 }
+can_acquire f h = grind arith
 
 pub acquired-shaped : (f : Facts) → IsShaped f → is_acquirable f ≡ true → IsShaped (acquired f)
-acquired-shaped f h may =
-    let c : CanAcquire f = can_acquire f may in record {
-      unused = λ e. absurd (both_ways (is_negotiated f) e c.negotiated);
-      dialing = h.dialing;
-      remote = h.remote;
-      kept = λ local. c.not_kept;
-      idle = λ phase local runs. absurd (false≢true (sym local));
-      serves_remote = h.serves_remote;
-      serves_local = λ local. rw c.duplex (or_right (is_outbound f) true refl);
-    }
+acquired-shaped f h may = grind (arith, can_acquire f may)
 
 released-serves : (runs : Bool) (grace : Grace) (until : ℕ) →
     (runs || is_for_remote (if runs || is_for_remote grace then grace else ForLocal until)) ≡ true →
@@ -135,51 +85,16 @@ released-serves false (ForLocal at) until e = e
 released-serves runs grace until e = refl
 
 pub released-shaped : (until : ℕ) (f : Facts) → IsShaped f → f.local ≡ true → IsShaped (released until f)
-released-shaped until f h local = record {
-  unused = λ e. absurd (both_ways (is_negotiated f) e (local-negotiated f h local));
-  dialing = h.dialing;
-  remote = λ runs. rw runs (h.remote runs);
-  kept = λ e. absurd (false≢true e);
-  idle = λ phase none runs. rw runs (cond_both (is_for_remote f.grace) f.grace (ForLocal until) (λ g. (is_for_remote g || is_for_local g) ≡ true) (λ is. rw is refl) (λ other. refl));
-  serves_remote = λ serves. h.serves_remote (released-serves (some_runs f.running) f.grace until serves);
-  serves_local = λ e. absurd (false≢true e);
-}
+released-shaped until f h local = grind (arith, local-negotiated, released-serves)
 
 -- A responder starts. That one of a known protocol then runs is handed in.
 pub awakened-shaped : (protocol : ℕ) (f : Facts) → IsShaped f → is_negotiated f ≡ true → serves_remote f ≡ true →
     some_runs (awakened protocol f).running ≡ true → IsShaped (awakened protocol f)
-awakened-shaped protocol f h negotiated serves runs = record {
-  unused = λ e. absurd (both_ways (is_negotiated f) e negotiated);
-  dialing = h.dialing;
-  remote = λ e. refl;
-  kept = λ e. refl;
-  idle = λ phase local none. absurd (both_ways (some_runs (awakened protocol f).running) none runs);
-  serves_remote = λ e. serves;
-  serves_local = h.serves_local;
-}
+awakened-shaped protocol f h negotiated serves runs = grind arith
 
 -- A responder stops, while one ran.
 pub idled-shaped : (protocol until : ℕ) (f : Facts) → IsShaped f → some_runs f.running ≡ true → IsShaped (idled protocol until f)
-idled-shaped protocol until f h runs =
-    let off : f.grace ≡ Off = h.remote runs in
-    let still : Bool = some_runs (idled protocol until f).running in
-    let serves : serves_remote f ≡ true = h.serves_remote (or_left (some_runs f.running) (is_for_remote f.grace) runs) in record {
-      unused = λ e. absurd (both_ways (is_negotiated f) e (running-negotiated f h runs));
-      dialing = h.dialing;
-      remote = λ e. rw e off;
-      kept = λ local. cond_both still f.grace (ForRemote until) (λ g. is_for_local g ≡ false) (λ runs. ap is_for_local off) (λ stops. refl);
-      idle = λ phase local none. rw none refl;
-      serves_remote = λ e. serves;
-      serves_local = h.serves_local;
-    }
+idled-shaped protocol until f h runs = grind (arith, running-negotiated f h runs)
 
 pub expired-shaped : (f : Facts) → IsShaped f → f.local ≡ true → IsShaped (expired f)
-expired-shaped f h local = record {
-  unused = λ e. absurd (both_ways (is_negotiated f) e (local-negotiated f h local));
-  dialing = h.dialing;
-  remote = λ runs. refl;
-  kept = λ e. refl;
-  idle = λ phase none runs. absurd (both_ways f.local none local);
-  serves_remote = λ serves. h.serves_remote (or_left (some_runs f.running) (is_for_remote f.grace) (or_false (some_runs f.running) serves));
-  serves_local = h.serves_local;
-}
+expired-shaped f h local = grind (arith, local-negotiated f h local, or_false)

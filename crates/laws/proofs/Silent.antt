@@ -1,7 +1,7 @@
 -- What is told of a sort by no part but those that are to.
-use Rattle.std.proofs.Common.{ℕ, ◌+◌, ◌≡◌, Bool, true, false, nat_lt, List, [], ◌∷◌, ◌++◌, flat_map, Option, Some, None, refl, ap, ◌∙◌}
-use Rattle.laws.proofs.Words.{cond_both, both_ways, false≢true, flat_map-append}
-use Rattle.laws.specs.Words.{pause_of, accepted, dialing, name_of, same_name, runs, Item, Action, Admit, Turnaway, Dial, Send, Close, Pause, AskRoots, State, Away, CloseCause, Unused, Overwritten, Fault, Protocol, PeerNote, StateName, Terminated, Addr, Cid, Job, Peer, entry_of, entered, new_peer, same_temp, Added, New, asked, may_ask, with_entry, without_entry, entry_turns, lost, ending, vanishes, closing_entry, trim, awake, Effect, nothing_more, tells, then_do, pause_notice, admitted, peer_connects, asks_roots, Machine, Entry, Owed, counted_in, next_cid, peer_at, turns_at, note_of, peer_comes, note_of_coming, paid, stops_if, begins, pays, brings, answered_as}
+use Rattle.std.proofs.Common.{ℕ, ◌≡◌, Bool, true, false, List, [], ◌∷◌, ◌++◌, flat_map, Option, Some, None, refl, ap, ◌∙◌, arith}
+use Rattle.laws.proofs.Words.{cond_both, false≢true, flat_map-append}
+use Rattle.laws.specs.Words.{dialing, name_of, same_name, runs, Item, Action, Admit, Turnaway, Dial, Send, Close, Pause, AskRoots, State, Away, CloseCause, Unused, Overwritten, Fault, Protocol, PeerNote, StateName, Terminated, Addr, Cid, Job, Peer, with_entry, without_entry, entry_turns, lost, ending, vanishes, closing_entry, trim, awake, Effect, nothing_more, then_do, admitted, peer_connects, asks_roots, Machine, Entry, Owed, next_cid, peer_at, turns_at, peer_comes, paid, stops_if, begins, pays, brings, answered_as}
 use Rattle.net_base.specs.declared.action.Action.TheVariants.{Peer as TellPeer}
 use Rattle.laws.specs.Words.note
 use Rattle.laws.specs.Acts.{Act, shows, asks_for_roots, connects, sets_targets, sets_big_targets, sets_groups, sets_roots, does}
@@ -53,21 +53,13 @@ module _ {X : Type 0} (by : Action → List X) (deaf : Deaf by) where
       (λ same. refl) (λ other. one-silent (State old.facts.cid (name_of new.facts)) (deaf.state old.facts.cid (name_of new.facts)))
 
   pub changed-silent : (o : Option Peer) (change : Peer → Peer) (m : Machine) → flat_map by (turns_at o change m).actions ≡ []
-  changed-silent None change m = refl
-  changed-silent (Some p) change m = cond_both (same_temp p.temp (change p).temp) [] (TellPeer p.addr (note_of (change p).temp) ∷ []) (λ actions. flat_map by actions ≡ [])
-      (λ same. refl) (λ other. one-silent (TellPeer p.addr (note_of (change p).temp)) (deaf.peer p.addr (note_of (change p).temp)))
+  changed-silent o change m = grind (arith, one-silent)
 
   pub comes-silent : (big : Bool) (addr : Addr) (m : Machine) → flat_map by (peer_comes big addr m).actions ≡ []
-  comes-silent big addr m = by_added (entry_of addr m.peers)
-    where
-      by_added : (added : Added) → flat_map by (note_of_coming added addr (record m { peers = entered (new_peer big addr) m.peers })).actions ≡ []
-      by_added New = one-silent (TellPeer addr note.Known) (deaf.peer addr note.Known)
-      by_added other = refl
+  comes-silent big addr m = grind (arith, one-silent)
 
   ended-silent : (cause : CloseCause) (e : Entry) (actions : List Action) → flat_map by actions ≡ [] → flat_map by (Close e.facts.cid cause ∷ State e.facts.cid Terminated ∷ actions) ≡ []
-  ended-silent cause e actions rest =
-      more-silent (Close e.facts.cid cause) (State e.facts.cid Terminated ∷ actions) (deaf.close e.facts.cid cause)
-      (more-silent (State e.facts.cid Terminated) actions (deaf.state e.facts.cid Terminated) rest)
+  ended-silent cause e actions rest = grind (arith, more-silent)
 
   pub ending-silent : (cause : CloseCause) (e : Entry) (m : Machine) → flat_map by (ending cause e m).actions ≡ []
   ending-silent Overwritten e m = ended-silent Overwritten e [] refl
@@ -78,16 +70,11 @@ module _ {X : Type 0} (by : Action → List X) (deaf : Deaf by) where
 
   -- a connection that comes is told of, and its name
   coming-silent : (first : Action) (cid : Cid) (name : StateName) (rest : List Action) → by first ≡ [] → flat_map by rest ≡ [] → flat_map by (first ∷ State cid name ∷ rest) ≡ []
-  coming-silent first cid name rest none more =
-      more-silent first (State cid name ∷ rest) none (more-silent (State cid name) rest (deaf.state cid name) more)
+  coming-silent first cid name rest none more = grind arith
 
   admitted-silent : ((cid : Cid) (addr : Addr) → by (Admit cid addr) ≡ []) → ((length : ℕ) → by (Pause length) ≡ []) → (addr : Addr) (m : Machine) →
       flat_map by (admitted addr m).actions ≡ []
-  admitted-silent admits pauses addr m =
-      let after : Machine = (admitted addr m).machine in
-      coming-silent (Admit (next_cid m) addr) (next_cid m) (name_of (accepted m.next_id addr (m.now + m.settings.handshake))) (pause_notice after) (admits (next_cid m) addr)
-      (cond_both (nat_lt after.settings.soft (counted_in after)) (Pause (pause_of after.settings (counted_in after)) ∷ []) [] (λ actions. flat_map by actions ≡ [])
-      (λ passed. one-silent (Pause (pause_of after.settings (counted_in after))) (pauses (pause_of after.settings (counted_in after)))) (λ goes_on. refl))
+  admitted-silent admits pauses addr m = grind (arith, admits (next_cid m) addr, coming-silent, one-silent)
 
   -- nor is what else a part may tell
   pub record Mutes (scope : Scope) : Type 0 where
@@ -104,7 +91,7 @@ module _ {X : Type 0} (by : Action → List X) (deaf : Deaf by) where
     when_nothing = λ m. refl;
     when_both = λ m first next one two. both-silent first next one two;
     when_moved = λ happened m effect none h. h;
-    when_sent = λ cid bytes m may. one-silent (Send cid bytes) (mutes.sends may cid bytes);
+    when_sent = λ cid bytes m may. one-silent (Send cid bytes) (mutes.sends may.may cid bytes);
     when_turned = λ turn e m stands. turns-silent e (turned_by turn e m) m;
     when_stored = λ undecoded e m stands came. turns-silent e (record e { undecoded = undecoded }) m;
     when_shut = λ e m stands drops. more-silent (Close e.facts.cid Unused) (entry_turns e (closing_entry m e) m).actions (deaf.close e.facts.cid Unused)
@@ -152,9 +139,7 @@ module _ {X : Type 0} (by : Action → List X) (deaf : Deaf by) where
   -- who is let in or turned away, and when accepting pauses, is no matter of it either
   pub connects-silent : ((cid : Cid) (addr : Addr) → by (Admit cid addr) ≡ []) → ((away : Away) → by (Turnaway away) ≡ []) → ((length : ℕ) → by (Pause length) ≡ []) →
       (addr : Addr) (m : Machine) → flat_map by (peer_connects addr m).actions ≡ []
-  connects-silent admits turns pauses addr m =
-      let door : Scope = record still { lets_in = true } in
-      connects-walk door Says (silent-kept door (record { sends = λ may. absurd (false≢true may); admits = λ may. admits; turns_away = λ may. turns; pauses = λ may. pauses })) addr m refl
+  connects-silent admits turns pauses addr m = grind (arith, connects-walk, silent-kept)
 
 -- neither does a peer connect nor are roots asked for
 abbrev pub IsOther : Act → Type 0
@@ -168,14 +153,7 @@ lets_nobody_in act other = refl
 
 module _ {X : Type 0} (by : Action → List X) (deaf : Deaf by) where
   mute_parts : (act : Act) → IsOther act → (may_send act ≡ true → (cid : Cid) (bytes : List ℕ) → by (Send cid bytes) ≡ []) → (m : Machine) → Mutes by deaf (scope_of act m)
-  mute_parts act other mute m =
-      let shut : may_let_in act ≡ false = lets_nobody_in act other in
-      record {
-        sends = mute;
-        admits = λ may. absurd (both_ways (may_let_in act) shut may);
-        turns_away = λ may. absurd (both_ways (may_let_in act) shut may);
-        pauses = λ may. absurd (both_ways (may_let_in act) shut may);
-      }
+  mute_parts act other mute m = grind (arith, lets_nobody_in)
 
   -- where what is sent is no matter of it, if anything is
   pub quiet-silent : (act : Act) (m : Machine) → IsOther act → (may_send act ≡ true → (cid : Cid) (bytes : List ℕ) → by (Send cid bytes) ≡ []) → IsNext act m → Finds act m →
@@ -195,5 +173,4 @@ module _ {X : Type 0} (by : Action → List X) (deaf : Deaf by) where
 
 -- where roots are asked for, that alone is told
 pub asks-silent : {X : Type 0} (by : Action → List X) → ((job : Job) → by (AskRoots job) ≡ []) → (m : Machine) → flat_map by (asks_roots m).actions ≡ []
-asks-silent by unasked m = cond_both (may_ask m.now m.targets.root m.roots) (tells (AskRoots (record { 0 = m.roots.next_job }) ∷ []) (record m { roots = asked m.roots })) (nothing_more m)
-    (λ effect. flat_map by effect.actions ≡ []) (λ too_few. ap (λ xs. xs ++ []) (unasked (record { 0 = m.roots.next_job }))) (λ enough. refl)
+asks-silent by unasked m = grind arith

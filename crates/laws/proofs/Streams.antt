@@ -1,7 +1,7 @@
 -- Bytes come in on a connection.
 use Rattle.std.proofs.Common.{ℕ, ◌≤◌, ◌≡◌, true, arith, List, [], ◌∷◌, Option, Some, refl, ap, ◌||◌}
 use Rattle.laws.proofs.Words.{cond_both}
-use Rattle.laws.specs.Words.{FedBy, CutFault, Item, Fault, Cid, Phase, Greeting, Negotiated, has_id, is_live, live_phase, is_greeting_phase, is_negotiated_phase, is_greeting, is_negotiated, kind_of, Machine, Entry, counted_in, entry_at, Effect, then_do, for_each, on_entry, on_connection, entry_turns, handled_in, handled, handles, faulted, fed_with, comes_in, bytes_come_in}
+use Rattle.laws.specs.Words.{FedBy, CutFault, Item, Fault, Cid, Phase, Greeting, Negotiated, has_id, is_live, live_phase, is_greeting_phase, is_negotiated_phase, is_greeting, is_negotiated, kind_of, Machine, Entry, counted_in, entry_at, Effect, then_do, for_each, on_connection, entry_turns, handled_in, handled, handles, faulted, fed_with, comes_in, bytes_come_in}
 use Rattle.laws.specs.AtMoves.{fed_on, IsLawful}
 use Rattle.laws.specs.Steady.{IsOrdered}
 use Rattle.laws.proofs.Handshakes.{greets-trimmed}
@@ -10,7 +10,6 @@ use Rattle.laws.proofs.Lists.{StandsAt, find_some}
 use Rattle.laws.proofs.Talks.{talks-trimmed}
 use Rattle.laws.proofs.Trims.{Trimmed, keeps-trimmed, ending-trimmed, nothing-trimmed, trimmed_then, trimmed-within, for_each_that-trimmed}
 use Rattle.laws.proofs.WholeMoves.{decodes-keeps}
-use Rattle.laws.proofs.Cases.{by_option}
 use Rattle.laws.proofs.Connects.{stood-cases}
 use Rattle.laws.proofs.Items.{IsOpen, turned-open, handles-open}
 
@@ -39,12 +38,10 @@ all_handled-open cid (item ∷ items) m h within open_ =
 
 pub faulted-trimmed : (cid : Cid) (fault : Option CutFault) → (m : Machine) → IsOrdered m → counted_in m ≤ m.settings.hard →
     IsOpen cid.0 m → Trimmed IsLawful m (on_connection cid (faulted fault) m)
-faulted-trimmed cid fault m h within open_ = by_option (entry_at cid.0 m) (λ o. Trimmed IsLawful m (on_entry o (faulted fault) m))
-    (λ is. nothing-trimmed IsLawful m within h)
-    (λ e is.
-    let at = find_some (λ y. has_id cid.0 y.facts) m.connections e is in
-    by_option fault (λ f. Trimmed IsLawful m (faulted f e m)) (λ none. nothing-trimmed IsLawful m within h)
-    (λ f some. ending-trimmed (Fault (kind_of f)) refl m e at.place h within at.stands (open_ e is) (λ negotiated. tt) tt))
+faulted-trimmed cid fault m h within open_ =
+    let ends = λ (f : CutFault) (e : Entry) (is : entry_at cid.0 m ≡ Some e).
+    (let at = find_some (λ y. has_id cid.0 y.facts) m.connections e is in ending-trimmed (Fault (kind_of f)) refl m e at.place h within at.stands (open_ e is) (λ negotiated. tt) tt) in
+    grind (arith, ends, nothing-trimmed IsLawful m within h)
 
 fed_with-trimmed : (fed : FedBy) (m : Machine) (e : Entry) (k : ℕ) → IsOrdered m → counted_in m ≤ m.settings.hard → StandsAt m.connections k e → is_live e.facts ≡ true →
     Trimmed IsLawful m (fed_with fed e m)

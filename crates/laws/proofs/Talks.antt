@@ -1,29 +1,28 @@
 -- A connection whose handshake is done: whatever comes in, the connections stay in order and within the limit.
-use Rattle.std.proofs.Common.{ℕ, ◌+◌, [], ◌∷◌, cond, not, is_some, ◌≤◌, ◌≡◌, Bool, true, false, ◌||◌, ◌==◌, if◌then◌else◌, List, find, set, Option, Some, None, Result, Ok, Err, refl, sym, ap, ◌∙◌, subst, arith, eqb-true}
-use Rattle.laws.proofs.Words.{cond_both, both_ways, false≢true, or_right}
-use Rattle.laws.specs.Words.{same_address, Fault, FaultKind, Protocol, UnknownId, Addr, Facts, Responders, Peer, Hot, awakened, idled, effective_of, has_responder, is_live, agreed_sharing, has_id, is_negotiated, runs, some_runs, Item, watched, seen_by_number, chain_sync_seen, block_fetch_seen, tx_submission_seen, keep_alive_seen, peer_sharing_seen, Reply, Seen, item_number_of, alive_of, share_of, Share, is_established, Machine, Entry, Owed, counted_in, entry_at, live_entry_at, Effect, shared, nothing_more, then_do, on_entry, on_connection, peer_at, peer_becomes, peer_comes, with_entry, entry_turns, ending, trim, awake, idle, replies, stops_if, serves, begins, takes_requests, shares_address, taken_of, takes_addresses, brings, talks, reply_on, without_reply, paid, Cid}
+use Rattle.std.proofs.Common.{ℕ, ◌+◌, [], ◌∷◌, is_some, ◌≤◌, ◌≡◌, Bool, true, false, ◌||◌, ◌==◌, if◌then◌else◌, List, find, Option, Some, None, Result, Ok, Err, refl, sym, ap, ◌∙◌, subst, arith, eqb-true}
+use Rattle.laws.proofs.Words.{cond_both, or_right}
+use Rattle.laws.specs.Words.{same_address, Fault, FaultKind, Protocol, UnknownId, Addr, Facts, Responders, Peer, Hot, awakened, idled, effective_of, has_responder, is_live, agreed_sharing, has_id, is_negotiated, runs, some_runs, Item, watched, seen_by_number, chain_sync_seen, block_fetch_seen, tx_submission_seen, keep_alive_seen, peer_sharing_seen, Reply, Seen, item_number_of, alive_of, share_of, Share, Machine, Entry, Owed, counted_in, entry_at, live_entry_at, Effect, shared, nothing_more, then_do, on_entry, on_connection, peer_at, peer_becomes, peer_comes, with_entry, entry_turns, ending, trim, awake, idle, replies, stops_if, serves, begins, takes_requests, shares_address, taken_of, takes_addresses, brings, talks, reply_on, without_reply, paid, Cid}
 use Rattle.laws.specs.Words.reply
-use Rattle.laws.specs.Words.share
 use Rattle.laws.proofs.Effects.{counted-running}
 use Rattle.laws.proofs.Entries.{TurnsInto, turned-connections}
-use Rattle.laws.specs.AtMoves.{IsLawful, is_up, is_hot_peer, is_asked_connection, is_hot_or_asked, is_known, promotes, activates, shares}
+use Rattle.laws.specs.AtMoves.{IsLawful, is_up, is_asked_connection, is_hot_or_asked, is_known, promotes, activates, shares}
 use Rattle.laws.proofs.KnownWanted.{takes-within}
 use Rattle.laws.proofs.Lawful.{Accounts, IsQuiet, quiet-lawful, quiet-obeys, tells-quiet, comes-providing, shared-accounts, turns-obeys, IsAllowed, Within, allowed_within, as_move-obeys, stands-found}
 use Rattle.laws.proofs.Keeping.{Keeps, keeps_nothing, moves_then, moves-keeps, keeps-moves, changes-moves, peer_comes-keeps}
 use Rattle.laws.proofs.Lists.{StandsAt, stands-set, find_some}
-use Rattle.laws.specs.Steady.{AreTied, TiedBy, IsOrdered}
+use Rattle.laws.specs.Steady.{IsOrdered}
 use Rattle.laws.proofs.Addresses.{same_address-true}
 use Rattle.laws.proofs.Owing.{paid-some}
-use Rattle.laws.proofs.Rises.{is_asked, is_hot, NoneConnected, or_each, rises_nowhere, same-connected, connected_then, IsNoHigher, turned-connected, changed-known}
+use Rattle.laws.proofs.Rises.{is_asked, is_hot, NoneConnected, rises_nowhere, same-connected, connected_then, IsNoHigher, turned-connected, changed-known}
 use Rattle.laws.proofs.Telling.{told_then}
 use Rattle.laws.proofs.ToldMoves.{turned-told, changes-told, turns_at-moves, turns_at-connections}
 use Rattle.laws.proofs.Ties.{changed-ties, turned_here, turned_elsewhere, live_here, turns_at-elsewhere}
 use Rattle.laws.proofs.Trims.{Trimmed, HasMoved, keeps-trimmed, ending-trimmed, nothing-trimmed, trimmed_both, trimmed_then, trimmed-within, raised_then_trimmed, trim-trims, for_each_that-trimmed}
 use Rattle.laws.proofs.WholeMoves.{negotiated-live, awakes-keeps, idles-keeps, pays-keeps}
 use Rattle.laws.proofs.OwnAddress.{IsOther, taken-other}
-use Rattle.laws.proofs.Remains.{trim-found, woken-runs as protocol-runs}
-use Rattle.laws.proofs.Walk.{replies-machine}
-use Rattle.laws.proofs.Cases.{by_bool, by_option, some_same}
+use Rattle.laws.proofs.Remains.{woken-runs as protocol-runs}
+use Rattle.laws.proofs.Walk.{replies-machine, trim-found}
+use Rattle.laws.proofs.Cases.{by_option, some_same}
 use Rattle.laws.proofs.ItemCases.{talks-cases}
 
 -- ---- only known protocols are answered
@@ -49,12 +48,7 @@ any_true x = or_right x true refl
 runs-some_by : (r : Responders) (a b c d e : Bool) →
     (if a then r.chain_sync else if b then r.block_fetch else if c then r.tx_submission else if d then r.keep_alive else if e then r.peer_sharing else false) ≡ true →
     some_runs r ≡ true
-runs-some_by r true b c d e h = rw h refl
-runs-some_by r false true c d e h = rw h (rw (any_true r.chain_sync) refl)
-runs-some_by r false false true d e h = rw h (rw (any_true (r.chain_sync || r.block_fetch)) refl)
-runs-some_by r false false false true e h = rw h (rw (any_true (r.chain_sync || r.block_fetch || r.tx_submission)) refl)
-runs-some_by r false false false false true h = rw h (any_true (r.chain_sync || r.block_fetch || r.tx_submission || r.keep_alive))
-runs-some_by r false false false false false h = absurd (false≢true h)
+runs-some_by r a b c d e h = grind (arith, h)
 
 pub runs-some : (protocol : ℕ) (r : Responders) → runs protocol r ≡ true → some_runs r ≡ true
 runs-some protocol r h = runs-some_by r (protocol == 2) (protocol == 3) (protocol == 4) (protocol == 8) (protocol == 10) h
@@ -91,17 +85,13 @@ awake-begun protocol m e k t serves known =
     let turns : TurnsInto e new = record { same_id = refl; same_addr = refl; live = λ l. l } in
     let runs : some_runs new.facts.running ≡ true = woken-runs protocol e.facts known in
     let raised : Keeps 1 m n = awakes-keeps protocol m e k t.ordered t.stands t.negotiated serves runs in
-    let list : n.connections ≡ set m.connections k new = turned-connections m e new k t.ordered.orderly t.stands turns in
-    let here : StandsAt n.connections k new = subst (λ es. StandsAt es k new) (sym list) (stands-set m.connections k new e t.stands) in
+    let here : StandsAt n.connections k new = subst (λ es. StandsAt es k new) (sym (turned-connections m e new k t.ordered.orderly t.stands turns)) (stands-set m.connections k new e t.stands) in
     let moved : HasMoved e.facts.cid n = record { entry = new; place = k; stands = here; same = refl; counted = counted-running new.facts t.negotiated runs } in
-    let trimmed : Trimmed IsLawful n (trim e.facts.cid n) =
-    trim-trims e.facts.cid n raised.ordered (omega (arith, raised.counted, t.within)) (λ over. moved) in
     record {
       trimmed = raised_then_trimmed IsLawful m (entry_turns e new m) (trim e.facts.cid) raised
-          (turns-obeys IsLawful m e new k t.ordered.orderly t.stands turns (record { up = λ up. up; asked = λ asked. asked }) (omega arith)) trimmed;
-      runs = λ x found.
-          let was : entry_at e.facts.cid.0 n ≡ Some x = trim-found e.facts.cid e.facts.cid.0 x n found in
-          ap (λ y. some_runs y.facts.running) (found_is n new x k raised.ordered here was) ∙ runs;
+          (turns-obeys IsLawful m e new k t.ordered.orderly t.stands turns (grind arith) (omega arith))
+          (trim-trims e.facts.cid n raised.ordered (omega (arith, raised.counted, t.within)) (λ over. moved));
+      runs = λ x found. grind (arith, runs, found_is n new x k raised.ordered here (trim-found e.facts.cid e.facts.cid.0 x n found));
     }
 
 begins-begun : (protocol : ℕ) (m : Machine) (e : Entry) (k : ℕ) → Talking m e k → takes_requests e ≡ true → has_responder protocol ≡ true →
@@ -134,12 +124,10 @@ serves-trimmed seen protocol cid m h within running = by_option (entry_at cid.0 
     (λ e is.
     let at = find_some (λ y. has_id cid.0 y.facts) m.connections e is in
     let first : Effect = replies seen.reply protocol e m in
-    let same : m ≡ first.machine = sym (replies-machine seen.reply protocol e m) in
+    let same = replies-machine seen.reply protocol e m in
     trimmed_then IsLawful m first (stops_if seen.done protocol e)
-    (keeps-trimmed IsLawful m first within (subst (Keeps 0 m) same (keeps_nothing m h))
-    (quiet-obeys IsLawful m first (replies-quiet seen.reply protocol e m)))
-    (subst (λ n. Trimmed IsLawful n (stops_if seen.done protocol e n)) same
-    (stops_if-trimmed seen.done protocol m e at.place h within at.stands (running e is))))
+    (keeps-trimmed IsLawful m first within (grind (arith, same, keeps_nothing m h)) (quiet-obeys IsLawful m first (replies-quiet seen.reply protocol e m)))
+    (grind (arith, same, stops_if-trimmed seen.done protocol m e at.place h within at.stands (running e is))))
 
 asked-trimmed : (item : Item) (seen : Seen) (m : Machine) (e : Entry) (k : ℕ) → watched item.id (agreed_sharing e.facts.agreed) item.body ≡ Ok seen → takes_requests e ≡ true →
     Talking m e k → Trimmed IsLawful m (then_do (begins item.id e m) (on_connection e.facts.cid (serves seen item.id)))
@@ -159,20 +147,15 @@ shared-trimmed addr m h within other =
     (shared-accounts false addr m))
 
 takes-trimmed : (o : Option Share) (m : Machine) → IsOrdered m → counted_in m ≤ m.settings.hard → Trimmed IsLawful m (takes_addresses o m)
-takes-trimmed o m h within = trimmed_both IsAllowed Within IsLawful (allowed_within) m (takes_addresses o m) (by_message o) (takes-within o m)
-  where
-    by_message : (o : Option Share) → Trimmed IsAllowed m (takes_addresses o m)
-    by_message (Some (share.Peers told)) =
-        for_each_that-trimmed IsAllowed IsOther shares_address (shared-trimmed) (taken_of told m) m h within
-        (taken-other m.settings (effective_of m.targets m.now).known m.peers told)
-    by_message other = nothing-trimmed IsAllowed m within h
+takes-trimmed o m h within =
+    let each = λ (told : List Addr). for_each_that-trimmed IsAllowed IsOther shares_address (shared-trimmed) (taken_of told m) m h within
+    (taken-other m.settings (effective_of m.targets m.now).known m.peers told) in
+    trimmed_both IsAllowed Within IsLawful (allowed_within) m (takes_addresses o m) (grind (arith, each, nothing-trimmed IsAllowed m within h)) (takes-within o m)
 
 -- what is asked of a peer is answered: it is hot
 paid-none : (owed : List Owed) → is_some (find (λ o. o.protocol == 2) (without_reply 2 owed)) ≡ false
 paid-none [] = refl
-paid-none (o ∷ owed) = by_bool (o.protocol == 2)
-    (λ b. is_some (find (λ x. x.protocol == 2) (without_reply 2 owed)) ≡ false → is_some (find (λ x. x.protocol == 2) (cond (not b) (o ∷ without_reply 2 owed) (without_reply 2 owed))) ≡ false)
-    (λ is rest. rest) (λ is rest. rw is rest) (paid-none owed)
+paid-none (o ∷ owed) = grind (arith, paid-none owed)
 
 hot-keeps : (m : Machine) (e : Entry) (k : ℕ) → IsOrdered m → StandsAt m.connections k e → is_live e.facts ≡ true → is_some (reply_on 2 e) ≡ true →
     Keeps 0 m (peer_becomes Hot e.facts.addr (with_entry (paid 2 e) m)).machine
@@ -188,16 +171,7 @@ hot-keeps m e k h s live asked =
     moves-keeps 0 m (peer_becomes Hot e.facts.addr n).machine
     (moves_then 0 0 m n (peer_becomes Hot e.facts.addr n).machine (keeps-moves 0 m n pays_it) (changes-moves e.facts.addr hot n (λ p. refl) (λ p ordinary. ordinary) pays_it.ordered))
     (changed-ties e.facts.addr hot m n (λ p. refl) refl refl (turned_elsewhere m e new k h.orderly s turns)
-    (λ none alone. absurd (both_ways (is_some (reply_on 2 e)) (subst (λ o. TiedBy m.now None o) was alone).not_asked asked))
-    (λ p found tie. subst (λ o. TiedBy m.now (Some (hot p)) o) (sym here) (is_hot p (subst (λ o. TiedBy m.now (Some p) o) was tie))))
-  where
-    is_hot : (p : Peer) → AreTied m.now p e → AreTied m.now (record p { temp = Hot }) (paid 2 e)
-    is_hot p tie = record {
-      established = sym (ap is_established (tie.asked asked)) ∙ tie.established;
-      in_use = tie.in_use;
-      on_its_way = tie.on_its_way;
-      asked = λ again. absurd (both_ways (is_some (reply_on 2 (paid 2 e))) (paid-none e.owed) again);
-    }
+    (λ none alone. grind (arith, was, alone, asked)) (λ p found tie. grind (arith, here, was, tie, asked, paid-none e.owed)))
 
 paid-lower : (protocol : ℕ) (e : Entry) → IsNoHigher e (paid protocol e)
 paid-lower protocol e = record { up = λ up. up; asked = paid-some (λ o. o.protocol == 2) protocol e.owed }
@@ -229,8 +203,7 @@ hot-accounts m e k h s live asked =
     by_address : (b : Addr) (o : Machine) → (same_address b e.facts.addr ≡ false → peer_at b o ≡ peer_at b m) → NoneConnected m o →
         (c : Bool) → same_address b e.facts.addr ≡ c → is_hot_or_asked b o ≡ true → is_hot_or_asked b m ≡ true
     by_address b o elsewhere connected true is rises = subst (λ a. is_hot_or_asked a m ≡ true) (sym (same_address-true b e.facts.addr is)) here
-    by_address b o elsewhere connected false other rises =
-        or_each (is_hot b o) (is_asked b o) (is_hot b m) (is_asked b m) (λ hot. ap is_hot_peer (sym (elsewhere other)) ∙ hot) (connected.asked b) rises
+    by_address b o elsewhere connected false other rises = grind arith
 
 answered_as-trimmed : (owed : Owed) (item : Item) (m : Machine) (e : Entry) (k : ℕ) → reply_on item.id e ≡ Some owed → Talking m e k →
     Trimmed IsLawful m (then_do (entry_turns e (paid item.id e) m) (brings item.id item.body e))

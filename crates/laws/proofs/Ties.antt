@@ -1,7 +1,7 @@
 -- What ties a peer to the live connection of its address, through each change of either.
-use Rattle.std.proofs.Common.{ℕ, ◌≡◌, Bool, true, false, cond, not, ◌&&◌, if◌then◌else◌, List, [], ◌∷◌, ◌++◌, get_or, find, set, Option, Some, None, is_some, refl, sym, ap, ◌∙◌, subst}
-use Rattle.laws.proofs.Words.{both_ways, false≢true, and_parts, and_from, false_from_ne_true, find-append}
-use Rattle.laws.specs.Words.{same_address, address_below, Addr, Facts, Peer, is_live, is_live_at, is_pending, has_address, without_peer, new_peer, entered, Machine, Entry, live_entry_at, peer_at, turns_at, peer_changes, reply_on, with_entry, without_entry, option_or}
+use Rattle.std.proofs.Common.{ℕ, ◌≡◌, Bool, true, false, cond, ◌&&◌, if◌then◌else◌, List, [], ◌∷◌, ◌++◌, get_or, find, Option, Some, None, is_some, refl, sym, ap, ◌∙◌, subst, arith}
+use Rattle.laws.proofs.Words.{both_ways, false≢true, and_from, false_from_ne_true, find-append}
+use Rattle.laws.specs.Words.{same_address, Addr, Facts, Peer, is_live, is_live_at, has_address, without_peer, new_peer, entered, Machine, Entry, live_entry_at, peer_at, turns_at, peer_changes, with_entry, without_entry}
 use Rattle.peer_book.specs.Book.{peer_at as peer_in, with_peer as with_peer_in, with_new as with_new_in}
 use Rattle.laws.specs.Laws.{LiveAddressesDistinct}
 use Rattle.laws.specs.Sound.{IsOrderly}
@@ -9,9 +9,9 @@ use Rattle.laws.specs.Steady.{TiedBy, IsTied}
 use Rattle.laws.proofs.Addresses.{same_address-self, same_address-true}
 use Rattle.laws.proofs.Entries.{TurnsInto, turned-connections, gone-connections, with_new}
 use Rattle.laws.proofs.Finds.{find-set_other, find-set_here, find-set_gone, find-remove_other, find-remove_here}
-use Rattle.laws.proofs.Lists.{StandsAt, OnePasses, FoundIn, find_some, find_only}
+use Rattle.laws.proofs.Lists.{StandsAt, OnePasses, find_some, find_only}
 use Rattle.laws.proofs.PeersApart.{same_turned, entered-cases}
-use Rattle.laws.proofs.Cases.{by_bool, by_option}
+use Rattle.laws.proofs.Cases.{by_bool}
 
 -- ---- all but one address stay
 
@@ -30,25 +30,18 @@ tied_but a m n now peers lives here h b = by_bool (same_address b a) (λ c. Tied
 -- at most one is
 pub live_one : (addr : Addr) (m : Machine) → LiveAddressesDistinct m → OnePasses (λ e. is_live_at addr e.facts) m.connections
 live_one addr m h i j d before inside here =
-    false_from_ne_true (is_live_at addr (get_or m.connections j d).facts) (λ there.
     let e : Entry = get_or m.connections i d in
     let f : Entry = get_or m.connections j d in
-    let one = and_parts (same_address e.facts.addr addr) (is_live e.facts) here in
-    let two = and_parts (same_address f.facts.addr addr) (is_live f.facts) there in
-    h i j d before inside one.1 two.1
-    (same_address-true e.facts.addr addr one.0 ∙ sym (same_address-true f.facts.addr addr two.0)))
+    grind (arith, here, h i j d before inside, same_address-true e.facts.addr addr, same_address-true f.facts.addr addr)
 
 pub live_here : (m : Machine) (e : Entry) (k : ℕ) → IsOrderly m → StandsAt m.connections k e → is_live e.facts ≡ true → live_entry_at e.facts.addr m ≡ Some e
-live_here m e k h s live =
-    let a : Addr = e.facts.addr in
-    find_only (λ x. is_live_at a x.facts) e m.connections k (live_one a m h.addresses) s (and_from (same_address a a) (is_live e.facts) (same_address-self a) live)
+live_here m e k h s live = grind (arith, find_only, live_one, same_address-self)
 
 not_at : (f : Facts) (b : Addr) → same_address b f.addr ≡ false → is_live_at b f ≡ false
 not_at f b h = ap (λ x. x && is_live f) (same_turned b f.addr h)
 
 not_live : (f : Facts) (b : Addr) → is_live f ≡ false → is_live_at b f ≡ false
-not_live f b h = by_bool (same_address f.addr b) (λ c. (c && is_live f) ≡ false)
-    (λ is. h) (λ is. refl)
+not_live f b h = grind arith
 
 -- the connection that is found there once one of that address has changed
 abbrev pub live_of : Entry → Option Entry
@@ -56,10 +49,7 @@ live_of new = if is_live new.facts then Some new else None
 
 pub turned_elsewhere : (m : Machine) (e new : Entry) (k : ℕ) → IsOrderly m → StandsAt m.connections k e → TurnsInto e new → (b : Addr) →
     same_address b e.facts.addr ≡ false → live_entry_at b (with_entry new m) ≡ live_entry_at b m
-turned_elsewhere m e new k h s t b other =
-    ap (find (λ x. is_live_at b x.facts)) (turned-connections m e new k h s t)
-    ∙ find-set_other (λ x. is_live_at b x.facts) new e m.connections k s (not_at e.facts b other)
-    (not_at new.facts b (subst (λ a. same_address b a ≡ false) (sym t.same_addr) other))
+turned_elsewhere m e new k h s t b other = grind (arith, turned-connections m e new k h s t, find-set_other, not_at)
 
 stays_dead : (e new : Entry) → TurnsInto e new → is_live e.facts ≡ false → is_live new.facts ≡ false
 stays_dead e new t dead = false_from_ne_true (is_live new.facts) (λ live. both_ways (is_live e.facts) dead (t.live live))
@@ -72,59 +62,32 @@ turned_dead m e new k h s t dead b =
 
 pub turned_here : (m : Machine) (e new : Entry) (k : ℕ) → IsOrderly m → StandsAt m.connections k e → TurnsInto e new → is_live e.facts ≡ true →
     live_entry_at e.facts.addr (with_entry new m) ≡ live_of new
-turned_here m e new k h s t live =
-    let before : is_live_at e.facts.addr e.facts ≡ true = and_from (same_address e.facts.addr e.facts.addr) (is_live e.facts) (same_address-self e.facts.addr) live in
-    ap (find (λ x. is_live_at e.facts.addr x.facts)) (turned-connections m e new k h s t) ∙ by_bool (is_live new.facts)
-    (λ b. find (λ x. is_live_at e.facts.addr x.facts) (set m.connections k new) ≡ (if b then Some new else None))
-    (λ is. find-set_here (λ x. is_live_at e.facts.addr x.facts) new e m.connections k (live_one e.facts.addr m h.addresses) s before
-    (and_from (same_address new.facts.addr e.facts.addr) (is_live new.facts)
-    (subst (λ a. same_address a e.facts.addr ≡ true) (sym t.same_addr) (same_address-self e.facts.addr)) is))
-    (λ is. find-set_gone (λ x. is_live_at e.facts.addr x.facts) new e m.connections k (live_one e.facts.addr m h.addresses) s before
-    (not_live new.facts e.facts.addr is))
+turned_here m e new k h s t live = grind (arith, same_address-self e.facts.addr, turned-connections m e new k h s t, live_one e.facts.addr m h.addresses, find-set_here, find-set_gone, not_live)
 
 pub gone_elsewhere : (m : Machine) (e : Entry) (k : ℕ) → IsOrderly m → StandsAt m.connections k e → (b : Addr) →
     same_address b e.facts.addr ≡ false → live_entry_at b (without_entry e.facts.cid.0 m) ≡ live_entry_at b m
-gone_elsewhere m e k h s b other =
-    ap (find (λ x. is_live_at b x.facts)) (gone-connections m e k h s)
-    ∙ find-remove_other (λ x. is_live_at b x.facts) e m.connections k s (not_at e.facts b other)
+gone_elsewhere m e k h s b other = grind (arith, gone-connections m e k h s, find-remove_other, not_at)
 
 pub gone_dead : (m : Machine) (e : Entry) (k : ℕ) → IsOrderly m → StandsAt m.connections k e → is_live e.facts ≡ false →
     (b : Addr) → live_entry_at b (without_entry e.facts.cid.0 m) ≡ live_entry_at b m
-gone_dead m e k h s dead b =
-    ap (find (λ x. is_live_at b x.facts)) (gone-connections m e k h s)
-    ∙ find-remove_other (λ x. is_live_at b x.facts) e m.connections k s (not_live e.facts b dead)
+gone_dead m e k h s dead b = grind (arith, gone-connections m e k h s, find-remove_other (λ x. is_live_at b x.facts) e m.connections k s (not_live e.facts b dead), not_live e.facts b dead)
 
 pub gone_here : (m : Machine) (e : Entry) (k : ℕ) → IsOrderly m → StandsAt m.connections k e → is_live e.facts ≡ true →
     live_entry_at e.facts.addr (without_entry e.facts.cid.0 m) ≡ None
-gone_here m e k h s live =
-    ap (find (λ x. is_live_at e.facts.addr x.facts)) (gone-connections m e k h s)
-    ∙ find-remove_here (λ x. is_live_at e.facts.addr x.facts) e m.connections k (live_one e.facts.addr m h.addresses) s
-    (and_from (same_address e.facts.addr e.facts.addr) (is_live e.facts) (same_address-self e.facts.addr) live)
+gone_here m e k h s live = grind (arith, gone-connections, find-remove_here, live_one, same_address-self)
 
 -- ---- the peer of an address
 
 pub peer_elsewhere : (new : Peer) (b : Addr) (ps : List Peer) → same_address b new.addr ≡ false → peer_in b (with_peer_in new ps) ≡ peer_in b ps
 peer_elsewhere new b [] other = refl
-peer_elsewhere new b (p ∷ ps) other = by_bool (has_address new.addr p)
-    (λ c. peer_in b (with_peer_in new ps) ≡ peer_in b ps → peer_in b ((if c then new else p) ∷ with_peer_in new ps) ≡ peer_in b (p ∷ ps))
-    (λ e rest.
-    let here : same_address new.addr b ≡ false = same_turned b new.addr other in
-    let same : same_address p.addr b ≡ false = subst (λ a. same_address a b ≡ false) (sym (same_address-true p.addr new.addr e)) here in
-    rw (here, same) rest)
-    (λ e rest. ap (λ o. cond (has_address b p) (Some p) o) rest) (peer_elsewhere new b ps other)
+peer_elsewhere new b (p ∷ ps) other = grind (arith, peer_elsewhere new b ps other, same_address-true p.addr new.addr, same_turned b new.addr other)
 
 pub peer_here : (new p : Peer) (ps : List Peer) → peer_in new.addr ps ≡ Some p → peer_in new.addr (with_peer_in new ps) ≡ Some new
 peer_here new p [] found = absurd cc
-peer_here new p (q ∷ ps) found = by_bool (has_address new.addr q)
-    (λ c. cond c (Some q) (peer_in new.addr ps) ≡ Some p →
-    (peer_in new.addr ps ≡ Some p → peer_in new.addr (with_peer_in new ps) ≡ Some new) →
-    peer_in new.addr ((if c then new else q) ∷ with_peer_in new ps) ≡ Some new)
-    (λ e f later. rw (same_address-self new.addr) refl) (λ e f later. rw e (later f)) found (peer_here new p ps)
+peer_here new p (q ∷ ps) found = grind (arith, same_address-self new.addr, peer_here new p ps)
 
 pub found-addr : (a : Addr) (ps : List Peer) (p : Peer) → peer_in a ps ≡ Some p → p.addr ≡ a
-found-addr a ps p found =
-    let at : FoundIn (has_address a) ps p = find_some (has_address a) ps p found in
-    same_address-true p.addr a at.passes
+found-addr a ps p found = grind (arith, find_some (has_address a) ps p found, same_address-true)
 
 -- ---- changes
 
@@ -134,10 +97,8 @@ pub turned-ties : (m : Machine) (e new : Entry) (k : ℕ) → IsOrderly m → St
 turned-ties m e new k h s t step ties = by_bool (is_live e.facts) (λ b. IsTied (with_entry new m))
     (λ live.
     tied_but e.facts.addr m (with_entry new m) refl (λ b other. refl) (turned_elsewhere m e new k h s t)
-    (subst (λ o. TiedBy m.now (peer_at e.facts.addr m) o) (sym (turned_here m e new k h s t live))
-    (step live (peer_at e.facts.addr m) refl (subst (λ o. TiedBy m.now (peer_at e.facts.addr m) o) (live_here m e k h s live) (ties e.facts.addr)))) ties)
-    (λ dead.
-    λ b. subst (λ o. TiedBy m.now (peer_at b m) o) (sym (turned_dead m e new k h s t dead b)) (ties b))
+    (grind (arith, turned_here m e new k h s t live, step live (peer_at e.facts.addr m) refl, live_here m e k h s live, ties e.facts.addr)) ties)
+    (λ dead b. grind (arith, turned_dead m e new k h s t dead b, ties b))
 
 -- a connection goes
 pub gone-ties : (m : Machine) (e : Entry) (k : ℕ) → IsOrderly m → StandsAt m.connections k e →
@@ -145,11 +106,8 @@ pub gone-ties : (m : Machine) (e : Entry) (k : ℕ) → IsOrderly m → StandsAt
 gone-ties m e k h s unused ties = by_bool (is_live e.facts) (λ b. IsTied (without_entry e.facts.cid.0 m))
     (λ live.
     tied_but e.facts.addr m (without_entry e.facts.cid.0 m) refl (λ b other. refl) (gone_elsewhere m e k h s)
-    (subst (λ o. TiedBy m.now (peer_at e.facts.addr m) o) (sym (gone_here m e k h s live))
-    (by_option (peer_at e.facts.addr m) (λ o. e.facts.local ≡ false → TiedBy m.now o (Some e) → TiedBy m.now o None)
-    (λ is unused tie. tt) (λ p is unused tie. tie.established ∙ unused) (unused live) (subst (λ o. TiedBy m.now (peer_at e.facts.addr m) o) (live_here m e k h s live) (ties e.facts.addr)))) ties)
-    (λ dead.
-    λ b. subst (λ o. TiedBy m.now (peer_at b m) o) (sym (gone_dead m e k h s dead b)) (ties b))
+    (grind (arith, gone_here m e k h s live, live_here m e k h s live, unused live, ties e.facts.addr)) ties)
+    (λ dead b. grind (arith, gone_dead m e k h s dead b, ties b))
 
 -- A peer changes, from one record to another in which its connection may have changed too.
 pub changed-ties : (a : Addr) (change : Peer → Peer) (m n : Machine) → ((p : Peer) → (change p).addr ≡ p.addr) → n.now ≡ m.now → n.peers ≡ m.peers →
@@ -184,20 +142,11 @@ changed-ties a change m n same now peers lives alone step ties = by_peer (peer_a
 
 pub put_in-elsewhere : (new : Peer) (b : Addr) (ps : List Peer) → same_address b new.addr ≡ false → peer_in b (with_new_in new ps) ≡ peer_in b ps
 put_in-elsewhere new b [] other = rw (same_turned b new.addr other) refl
-put_in-elsewhere new b (p ∷ ps) other = by_bool (address_below p.addr new.addr)
-    (λ c. peer_in b (with_new_in new ps) ≡ peer_in b ps → peer_in b (if c then p ∷ with_new_in new ps else new ∷ p ∷ ps) ≡ peer_in b (p ∷ ps))
-    (λ is rest. ap (λ o. cond (has_address b p) (Some p) o) rest) (λ is rest. rw (same_turned b new.addr other) refl) (put_in-elsewhere new b ps other)
+put_in-elsewhere new b (p ∷ ps) other = grind (arith, same_turned b new.addr other, put_in-elsewhere new b ps other)
 
 pub put_in-here : (new : Peer) (ps : List Peer) → peer_in new.addr ps ≡ None → peer_in new.addr (with_new_in new ps) ≡ Some new
 put_in-here new [] none = rw (same_address-self new.addr) refl
-put_in-here new (p ∷ ps) none = by_there (has_address new.addr p) refl none (put_in-here new ps)
-  where
-    by_there : (c : Bool) → has_address new.addr p ≡ c → cond c (Some p) (peer_in new.addr ps) ≡ None →
-        (peer_in new.addr ps ≡ None → peer_in new.addr (with_new_in new ps) ≡ Some new) → peer_in new.addr (with_new_in new (p ∷ ps)) ≡ Some new
-    by_there true e f later = absurd cc
-    by_there false e f later = by_bool (address_below p.addr new.addr)
-        (λ c. peer_in new.addr (with_new_in new ps) ≡ Some new → peer_in new.addr (if c then p ∷ with_new_in new ps else new ∷ p ∷ ps) ≡ Some new)
-        (λ is rest. rw e rest) (λ is rest. rw (same_address-self new.addr) refl) (later f)
+put_in-here new (p ∷ ps) none = grind (arith, put_in-here new ps, same_address-self new.addr)
 
 pub none_there : (o : Option Peer) → is_some o ≡ false → o ≡ None
 none_there None h = refl
@@ -205,41 +154,22 @@ none_there (Some p) h = absurd (false≢true (sym h))
 
 -- a cold one, which is not asked anything
 new-tied : (big : Bool) (addr : Addr) (now : ℕ) (o : Option Entry) → TiedBy now None o → TiedBy now (Some (new_peer big addr)) o
-new-tied big addr now None tie = refl
-new-tied big addr now (Some e) tie = record {
-  established = sym tie.unused;
-  in_use = λ local. absurd (both_ways e.facts.local tie.unused local);
-  on_its_way = λ pending. absurd (both_ways (is_pending e.facts) tie.not_dialed pending);
-  asked = λ asked. absurd (both_ways (is_some (reply_on 2 e)) tie.not_asked asked);
-}
+new-tied big addr now o tie = grind arith
 
 pub comes-ties : (big : Bool) (addr : Addr) (m : Machine) → IsTied m → IsTied (record m { peers = entered (new_peer big addr) m.peers })
-comes-ties big addr m ties = entered-cases new m.peers (λ ps. IsTied (record m { peers = ps })) ties
-    (λ none room. comes (none_there (peer_in addr m.peers) none))
-  where
-    new : Peer
-    new = new_peer big addr
-
-    comes : peer_in addr m.peers ≡ None → IsTied (record m { peers = with_new_in new m.peers })
-    comes none =
-        tied_but addr m (record m { peers = with_new_in new m.peers }) refl (λ b other. put_in-elsewhere new b m.peers other) (λ b other. refl)
-        (subst (λ o. TiedBy m.now o (live_entry_at addr m)) (sym (put_in-here new m.peers none))
-        (new-tied big addr m.now (live_entry_at addr m) (subst (λ o. TiedBy m.now o (live_entry_at addr m)) none (ties addr)))) ties
+comes-ties big addr m ties = entered-cases (new_peer big addr) m.peers (λ ps. IsTied (record m { peers = ps })) ties
+    (λ none room.
+    let unknown : peer_in addr m.peers ≡ None = none_there (peer_in addr m.peers) none in
+    tied_but addr m (record m { peers = with_new_in (new_peer big addr) m.peers }) refl (λ b other. put_in-elsewhere (new_peer big addr) b m.peers other) (λ b other. refl)
+    (grind (arith, put_in-here (new_peer big addr) m.peers unknown, new-tied big addr m.now (live_entry_at addr m), unknown, ties addr)) ties)
 
 pub taken-elsewhere : (addr b : Addr) (ps : List Peer) → same_address b addr ≡ false → peer_in b (without_peer addr ps) ≡ peer_in b ps
 taken-elsewhere addr b [] other = refl
-taken-elsewhere addr b (p ∷ ps) other = by_bool (same_address p.addr addr)
-    (λ c. peer_in b (without_peer addr ps) ≡ peer_in b ps → peer_in b (cond (not c) (p ∷ without_peer addr ps) (without_peer addr ps)) ≡ peer_in b (p ∷ ps))
-    (λ e rest.
-    let same : same_address p.addr b ≡ false = subst (λ a. same_address a b ≡ false) (sym (same_address-true p.addr addr e)) (same_turned b addr other) in
-    rw same rest)
-    (λ e rest. ap (λ o. cond (has_address b p) (Some p) o) rest) (taken-elsewhere addr b ps other)
+taken-elsewhere addr b (p ∷ ps) other = grind (arith, taken-elsewhere addr b ps other, same_address-true p.addr addr, same_turned b addr other)
 
 pub taken-here : (addr : Addr) (ps : List Peer) → peer_in addr (without_peer addr ps) ≡ None
 taken-here addr [] = refl
-taken-here addr (p ∷ ps) = by_bool (same_address p.addr addr)
-    (λ c. peer_in addr (without_peer addr ps) ≡ None → peer_in addr (cond (not c) (p ∷ without_peer addr ps) (without_peer addr ps)) ≡ None)
-    (λ e rest. rest) (λ e rest. rw e rest) (taken-here addr ps)
+taken-here addr (p ∷ ps) = grind (arith, taken-here addr ps)
 
 pub taken-ties : (addr : Addr) (m : Machine) → TiedBy m.now None (live_entry_at addr m) → IsTied m → IsTied (record m { peers = without_peer addr m.peers })
 taken-ties addr m alone ties =
@@ -253,8 +183,7 @@ find-push_other p new [] h = rw h refl
 find-push_other p new (x ∷ xs) h = ap (λ o. cond (p x) (Some x) o) (find-push_other p new xs h)
 
 pub find-push_here : {X : Type 0} (p : X → Bool) (new : X) (xs : List X) → find p xs ≡ None → p new ≡ true → find p (xs ++ new ∷ []) ≡ Some new
-find-push_here p new xs none h =
-    find-append p xs (new ∷ []) ∙ (ap (λ o. option_or o (cond (p new) (Some new) None)) none ∙ ap (λ b. cond b (Some new) None) h)
+find-push_here p new xs none h = grind (arith, find-append)
 
 pub come_elsewhere : (m : Machine) (new : Entry) (b : Addr) → same_address b new.facts.addr ≡ false → live_entry_at b (with_new new m) ≡ live_entry_at b m
 come_elsewhere m new b other = find-push_other (λ e. is_live_at b e.facts) new m.connections (not_at new.facts b other)
@@ -263,16 +192,10 @@ pub come-ties : (m : Machine) (new : Entry) → is_live new.facts ≡ true → l
     (TiedBy m.now (peer_at new.facts.addr m) None → TiedBy m.now (peer_at new.facts.addr m) (Some new)) → IsTied m → IsTied (with_new new m)
 come-ties m new live none step ties =
     let a : Addr = new.facts.addr in
-    tied_but a m (with_new new m) refl (λ b other. refl) (λ b other. come_elsewhere m new b other)
-    (subst (λ o. TiedBy m.now (peer_at a m) o)
-    (sym (find-push_here (λ e. is_live_at a e.facts) new m.connections none
-    (and_from (same_address a a) (is_live new.facts) (same_address-self a) live)))
-    (step (subst (λ o. TiedBy m.now (peer_at a m) o) none (ties a)))) ties
+    let here = find-push_here (λ e. is_live_at a e.facts) new m.connections none (and_from (same_address a a) (is_live new.facts) (same_address-self a) live) in
+    tied_but a m (with_new new m) refl (λ b other. refl) (λ b other. come_elsewhere m new b other) (grind (arith, here, step, none, ties a)) ties
 
 -- a change at one address leaves the peers of all others
 pub turns_at-elsewhere : (a : Addr) (change : Peer → Peer) (m : Machine) → ((p : Peer) → (change p).addr ≡ p.addr) → (b : Addr) → same_address b a ≡ false →
     peer_at b (peer_changes a change m).machine ≡ peer_at b m
-turns_at-elsewhere a change m same b other = by_option (peer_at a m) (λ o. peer_at b (turns_at o change m).machine ≡ peer_at b m)
-    (λ is. refl)
-    (λ p is.
-    peer_elsewhere (change p) b m.peers (subst (λ x. same_address b x ≡ false) (sym (same p ∙ found-addr a m.peers p is)) other))
+turns_at-elsewhere a change m same b other = grind (arith, found-addr a m.peers, same, other, peer_elsewhere)

@@ -1,14 +1,13 @@
 -- What each change of a connection or a peer tells.
-use Rattle.std.proofs.Common.{ℕ, ◌+◌, ◌≡◌, ◌≤◌, Bool, true, false, not, ◌==◌, nat_lt, nat_le, if◌then◌else◌, List, [], ◌∷◌, ◌++◌, find, get_or, set, remove, length, flat_map, Option, Some, None, is_some, refl, sym, ap, ◌∙◌, subst, arith, eqb-true, eq-eqb, ne_eqb}
-use Rattle.laws.proofs.Words.{cond_both, both_ways, false≢true, All-weaker}
-use Rattle.laws.specs.Words.{option_map, name_of, name_in_phase, name_in_use, name_place, same_name, has_id, is_duplex, some_runs, same_address, Action, Admit, Dial, Close, State, CloseCause, PeerNote, StateName, ReservedOutbound, UnnegotiatedInbound, UnnegotiatedOutbound, Duplex, OutboundUni, OutboundDupTicking, OutboundDupExpired, Inbound, InboundIdle, OutboundIdle, Terminating, Terminated, Addr, Cid, Facts, Grace, Off, Phase, Greeting, Negotiated, Provenance, FromRemote, FromLocal, Peer, Temp, Cold, Warm, Hot, new_peer, entered_by, most_peers, same_temp, Added, New, Present, Full, with_entry, without_entry, entry_turns, entry_comes, entry_goes, Effect, Happened, Move, promoted, as_move, Machine, Entry, entry_at, peer_at, note_of, turns_at, peer_changes, note_of_coming, peer_comes, peer_goes}
+use Rattle.std.proofs.Common.{ℕ, ◌+◌, ◌≡◌, ◌≤◌, Bool, true, false, not, ◌==◌, nat_lt, if◌then◌else◌, List, [], ◌∷◌, ◌++◌, find, get_or, remove, flat_map, Option, Some, None, is_some, refl, sym, ap, ◌∙◌, subst, arith, eqb-true, eq-eqb, ne_eqb}
+use Rattle.laws.proofs.Words.{both_ways, All-weaker}
+use Rattle.laws.specs.Words.{option_map, name_of, name_place, same_name, has_id, same_address, Action, Admit, Dial, Close, State, CloseCause, PeerNote, StateName, ReservedOutbound, UnnegotiatedInbound, UnnegotiatedOutbound, Duplex, OutboundUni, OutboundDupTicking, OutboundDupExpired, Inbound, InboundIdle, OutboundIdle, Terminating, Terminated, Addr, Cid, Facts, Peer, Temp, Cold, new_peer, entered_by, same_temp, Added, New, Present, Full, with_entry, without_entry, entry_turns, entry_comes, entry_goes, Effect, Happened, Move, promoted, as_move, Machine, Entry, entry_at, peer_at, note_of, turns_at, peer_changes, note_of_coming, peer_comes, peer_goes}
 use Rattle.net_base.specs.declared.action.Action.TheVariants.{Peer as TellPeer}
 use Rattle.laws.specs.Words.note
-use Rattle.peer_book.specs.Book.{peer_at as peer_in}
 use Rattle.laws.specs.Sound.{HasGivenId, IsOrderly}
 use Rattle.laws.specs.Stages.{stage_of_phase, stage_of, stage_at, stage_ended, causes_by, IsLateCause, IsOneEnd}
 use Rattle.laws.specs.Telling.{GoesOn, IsTold}
-use Rattle.laws.specs.InActions.{End, Given, closes_in, ended_by, ends_in, dials_in, promoted_by_dial, dial_promotions_in, given_in, CountUp, HasAddress, AreAt, LeadTo, temp_of, temp_at, notes_in, noted, is_change, names_in, is_other_name, same_state}
+use Rattle.laws.specs.InActions.{End, closes_in, ended_by, ends_in, dials_in, promoted_by_dial, dial_promotions_in, given_in, LeadTo, temp_of, temp_at, notes_in, noted, is_change, names_in, is_other_name, same_state}
 use Rattle.laws.proofs.Addresses.{same_address-self, same_address-true}
 use Rattle.laws.proofs.Entries.{TurnsInto, one_has_id, has_own_id, turned-connections, gone-connections, with_new}
 use Rattle.laws.proofs.Failures.{changed-found}
@@ -29,26 +28,11 @@ placed ReservedOutbound = refl
 placed other = refl
 
 same_name-true : (a b : StateName) → same_name a b ≡ true → a ≡ b
-same_name-true a b h =
-    sym (placed a) ∙ (ap (λ n. get_or all_names n Terminated) (eqb-true (name_place a) (name_place b) h) ∙ placed b)
+same_name-true a b h = grind arith
 
 -- no entry is called terminated
 stands-named : (f : Facts) → same_name (name_of f) Terminated ≡ false
-stands-named f = by_phase f.phase
-  where
-    by_grace : (l r d : Bool) (g : Grace) → same_name (name_in_use l r d g) Terminated ≡ false
-    by_grace true false true Off = refl
-    by_grace false false d Off = refl
-    by_grace l r d g = refl
-
-    by_side : (p : Provenance) (until : ℕ) → same_name (name_in_phase (Greeting until) (record f { provenance = p })) Terminated ≡ false
-    by_side FromRemote until = refl
-    by_side FromLocal until = refl
-
-    by_phase : (p : Phase) → same_name (name_in_phase p f) Terminated ≡ false
-    by_phase (Greeting until) = by_side f.provenance until
-    by_phase Negotiated = by_grace f.local (some_runs f.running) (is_duplex f) f.grace
-    by_phase other = refl
+stands-named f = grind arith
 
 named-stands : (f : Facts) → same_name Terminated (name_of f) ≡ false
 named-stands f = ne_eqb 11 (name_place (name_of f)) (λ same. both_ways (same_name (name_of f) Terminated) (stands-named f) (eq-eqb (name_place (name_of f)) 11 (sym same)))
@@ -56,62 +40,40 @@ named-stands f = ne_eqb 11 (name_place (name_of f)) (λ same. both_ways (same_na
 -- one notice, where it names the connection
 one_name : (cid : ℕ) (other : Cid) (before name : StateName) → (other.0 == cid) ≡ true → same_name before name ≡ false →
     LeadTo is_other_name same_state before (names_in cid (State other name ∷ [])) name
-one_name cid other before name own differs =
-    subst (λ c. LeadTo is_other_name same_state before ((if c then name ∷ [] else []) ++ []) name) (sym own) (ap not differs, refl)
+one_name cid other before name own differs = grind arith
 
 no_name : (cid : ℕ) (other : Cid) (name : StateName) → (other.0 == cid) ≡ false → names_in cid (State other name ∷ []) ≡ []
 no_name cid other name apart = ap (λ c. (if c then name ∷ [] else []) ++ []) apart
 
--- ---- what tells of connections alone
+-- ---- what tells of no end, and of nobody who comes
 
-record IsNaming (actions : List Action) : Type 0 where
+record IsPlain (actions : List Action) : Type 0 where
   closes : closes_in actions ≡ []
   dials : dials_in actions ≡ []
   given : given_in actions ≡ []
-  notes : (addr : Addr) → notes_in addr actions ≡ []
 
-turn-naming : (same : Bool) (cid : Cid) (name : StateName) → IsNaming (if same then [] else State cid name ∷ [])
-turn-naming true cid name = record { closes = refl; dials = refl; given = refl; notes = λ addr. refl }
-turn-naming false cid name = record { closes = refl; dials = refl; given = refl; notes = λ addr. refl }
-
-naming-told : (m : Machine) (effect : Effect) → IsNaming effect.actions → effect.moves ≡ [] → effect.machine.peers ≡ m.peers → effect.machine.next_id ≡ m.next_id →
-    ((cid : ℕ) → GoesOn cid m effect) → IsTold m effect
-naming-told m effect naming none peers next_id each = record {
-  closes = naming.closes ∙ sym (ap ends_in none);
-  dials = naming.dials ∙ sym (ap dial_promotions_in none);
-  given = subst (λ ns. CountUp m.next_id ns effect.machine.next_id) (sym naming.given) (sym next_id);
-  addresses = subst (λ gs. AreAt gs effect.machine) (sym naming.given) tt;
-  peers = λ addr. subst (λ ns. LeadTo is_change noted (temp_at addr m) ns (temp_at addr effect.machine)) (sym (naming.notes addr))
-      (ap (λ ps. temp_of (peer_in addr ps)) (sym peers));
-  connections = each;
-}
+plain-told : (m : Machine) (effect : Effect) → IsPlain effect.actions → effect.moves ≡ [] → effect.machine.next_id ≡ m.next_id →
+    ((addr : Addr) → LeadTo is_change noted (temp_at addr m) (notes_in addr effect.actions) (temp_at addr effect.machine)) → ((cid : ℕ) → GoesOn cid m effect) → IsTold m effect
+plain-told m effect plain none next_id peers each = grind (arith, plain, none, next_id, peers, each)
 
 -- ---- a connection turns
 
 pub turned-told : (m : Machine) (e new : Entry) (k : ℕ) → IsOrderly m → StandsAt m.connections k e → TurnsInto e new →
     stage_of_phase e.facts.phase ≤ stage_of_phase new.facts.phase → IsTold m (entry_turns e new m)
 turned-told m e new k h s t forward =
-    naming-told m (entry_turns e new m) (turn-naming (same_name (name_of e.facts) (name_of new.facts)) e.facts.cid (name_of new.facts)) refl refl refl
-    (λ cid. by_id cid (has_id cid e.facts) refl)
-  where
-    list : (with_entry new m).connections ≡ set m.connections k new
-    list = turned-connections m e new k h s t
-
-    by_id : (cid : ℕ) (b : Bool) → has_id cid e.facts ≡ b → GoesOn cid m (entry_turns e new m)
-    by_id cid true own =
-        let one : OnePasses (λ x. has_id cid x.facts) m.connections = one_has_id cid m.connections h.ids_rise in
-        let new_own : has_id cid new.facts ≡ true = ap (λ c. c.0 == cid) t.same_id ∙ own in
-        went_on cid m (entry_turns e new m) (Some e) (Some new) (find_only (λ x. has_id cid x.facts) e m.connections k one s own)
-        (ap (find (λ x. has_id cid x.facts)) list ∙ find-set_here (λ x. has_id cid x.facts) new e m.connections k one s own new_own) refl t.same_addr
-        (cond_both (same_name (name_of e.facts) (name_of new.facts)) [] (State e.facts.cid (name_of new.facts) ∷ [])
-        (λ actions. LeadTo is_other_name same_state (name_of e.facts) (names_in cid actions) (name_of new.facts)) (same_name-true (name_of e.facts) (name_of new.facts))
-        (one_name cid e.facts.cid (name_of e.facts) (name_of new.facts) own)) forward
-    by_id cid false other =
-        let new_other : has_id cid new.facts ≡ false = ap (λ c. c.0 == cid) t.same_id ∙ other in
-        went_untold cid m (entry_turns e new m)
-        (ap (find (λ x. has_id cid x.facts)) list ∙ find-set_other (λ x. has_id cid x.facts) new e m.connections k s other new_other) refl
-        (cond_both (same_name (name_of e.facts) (name_of new.facts)) [] (State e.facts.cid (name_of new.facts) ∷ []) (λ actions. names_in cid actions ≡ [])
-        (λ same. refl) (λ turns. no_name cid e.facts.cid (name_of new.facts) other)) (omega arith)
+    let list = turned-connections m e new k h s t in
+    plain-told m (entry_turns e new m) (grind arith) refl refl (λ addr. grind arith)
+    (λ cid.
+    by_bool (has_id cid e.facts) (λ b. GoesOn cid m (entry_turns e new m))
+    (λ own.
+    let one : OnePasses (λ x. has_id cid x.facts) m.connections = one_has_id cid m.connections h.ids_rise in
+    went_on cid m (entry_turns e new m) (Some e) (Some new) (find_only (λ x. has_id cid x.facts) e m.connections k one s own)
+    (ap (find (λ x. has_id cid x.facts)) list ∙ find-set_here (λ x. has_id cid x.facts) new e m.connections k one s own (ap (λ c. c.0 == cid) t.same_id ∙ own)) refl t.same_addr
+    (grind (arith, same_name-true (name_of e.facts) (name_of new.facts), one_name cid e.facts.cid (name_of e.facts) (name_of new.facts) own)) forward)
+    (λ other.
+    went_untold cid m (entry_turns e new m)
+    (ap (find (λ x. has_id cid x.facts)) list ∙ find-set_other (λ x. has_id cid x.facts) new e m.connections k s other (ap (λ c. c.0 == cid) t.same_id ∙ other)) refl
+    (grind (arith, no_name cid e.facts.cid (name_of new.facts) other)) (omega arith)))
 
 pub turned-stage : (m : Machine) (e new : Entry) (k : ℕ) → IsOrderly m → StandsAt m.connections k e → TurnsInto e new →
     stage_at e.facts.cid.0 (with_entry new m) ≡ stage_of_phase new.facts.phase
@@ -133,31 +95,17 @@ is_given m e k cid h s own =
 
 pub goes-told : (m : Machine) (e : Entry) (k : ℕ) → IsOrderly m → StandsAt m.connections k e → IsTold m (entry_goes e m)
 goes-told m e k h s =
-    naming-told m (entry_goes e m) (turn-naming false e.facts.cid Terminated) refl refl refl (λ cid. by_id cid (has_id cid e.facts) refl)
+    plain-told m (entry_goes e m) (record { closes = refl; dials = refl; given = refl }) refl refl (λ addr. refl) (λ cid. by_id cid (has_id cid e.facts) refl)
   where
     list : (without_entry e.facts.cid.0 m).connections ≡ remove m.connections k
     list = gone-connections m e k h s
 
     by_id : (cid : ℕ) (b : Bool) → has_id cid e.facts ≡ b → GoesOn cid m (entry_goes e m)
-    by_id cid true own =
-        let one : OnePasses (λ x. has_id cid x.facts) m.connections = one_has_id cid m.connections h.ids_rise in
-        let given : nat_lt cid m.next_id ≡ true = is_given m e k cid h s own in
-        let most : stage_of_phase e.facts.phase ≤ 4 = open_stage e.facts.phase in
-        went_on cid m (entry_goes e m) (Some e) None (find_only (λ x. has_id cid x.facts) e m.connections k one s own)
-        (ap (find (λ x. has_id cid x.facts)) list ∙ find-remove_here (λ x. has_id cid x.facts) e m.connections k one s own) refl tt
-        (one_name cid e.facts.cid (name_of e.facts) Terminated own (stands-named e.facts))
-        (subst (λ b. stage_of_phase e.facts.phase ≤ (if b then 5 else 0)) (sym given) (omega (arith, most)))
-    by_id cid false other =
-        went_untold cid m (entry_goes e m) (ap (find (λ x. has_id cid x.facts)) list ∙ find-remove_other (λ x. has_id cid x.facts) e m.connections k s other) refl
-        (no_name cid e.facts.cid Terminated other) (omega arith)
+    by_id cid true own = grind (arith, one_has_id, is_given, open_stage, one_name, stands-named, went_on, find_only, list, find-remove_here)
+    by_id cid false other = grind (arith, went_untold, find-remove_other, no_name, list)
 
 pub goes-stage : (m : Machine) (e : Entry) (k : ℕ) → IsOrderly m → StandsAt m.connections k e → stage_at e.facts.cid.0 (without_entry e.facts.cid.0 m) ≡ 5
-goes-stage m e k h s =
-    let own : has_id e.facts.cid.0 e.facts ≡ true = has_own_id e in
-    let gone : entry_at e.facts.cid.0 (without_entry e.facts.cid.0 m) ≡ None =
-    ap (find (λ x. has_id e.facts.cid.0 x.facts)) (gone-connections m e k h s)
-    ∙ find-remove_here (λ x. has_id e.facts.cid.0 x.facts) e m.connections k (one_has_id e.facts.cid.0 m.connections h.ids_rise) s own in
-    ap (λ o. stage_of o (nat_lt e.facts.cid.0 m.next_id)) gone ∙ ap (λ b. if b then 5 else 0) (is_given m e k e.facts.cid.0 h s own)
+goes-stage m e k h s = grind (arith, has_own_id, gone-connections, one_has_id, find-remove_here, is_given)
 
 -- ---- a connection is ended
 
@@ -169,11 +117,12 @@ pub ended-told : (happened : Happened) (cid : Cid) (cause : CloseCause) (m : Mac
 ended-told happened cid cause m inner is_end no_dial h none early late may =
     let move : Move = record { happened = happened; before = m; after = inner.machine } in
     let end : End = record { cid = cid.0; cause = cause } in
-    let no_ends : ends_in inner.moves ≡ [] = ap ends_in none in
     let ends : ends_in (inner.moves ++ move ∷ []) ≡ end ∷ [] =
     ap (λ ms. ends_in (ms ++ move ∷ [])) none ∙ ap (λ l. l ++ []) is_end in
+    let one : (id : ℕ) → IsOneEnd (flat_map (causes_by id) (end ∷ [])) (stage_at id m) (stage_at id inner.machine) =
+    λ id. by_bool (cid.0 == id) (λ b. IsOneEnd ((if b then cause ∷ [] else []) ++ []) (stage_at id m) (stage_at id inner.machine)) (λ own. let is = eqb-true cid.0 id own in grind (arith, is, early, late, may)) (λ other. tt) in
     record {
-      closes = ap (λ l. end ∷ l) (h.closes ∙ no_ends) ∙ sym ends;
+      closes = ap (λ l. end ∷ l) (h.closes ∙ ap ends_in none) ∙ sym ends;
       dials = h.dials
           ∙ (ap dial_promotions_in none ∙ sym (ap (λ ms. dial_promotions_in (ms ++ move ∷ [])) none ∙ ap (λ l. l ++ []) no_dial));
       given = h.given;
@@ -183,24 +132,14 @@ ended-told happened cid cause m inner is_end no_dial h none early late may =
         names = (h.connections id).names;
         address = (h.connections id).address;
         forward = (h.connections id).forward;
-        ends = subst (λ es. IsOneEnd (flat_map (causes_by id) es) (stage_at id m) (stage_at id inner.machine)) (sym ends) (by_id id (cid.0 == id) refl);
+        ends = subst (λ es. IsOneEnd (flat_map (causes_by id) es) (stage_at id m) (stage_at id inner.machine)) (sym ends) (one id);
       };
     }
-  where
-    by_id : (id : ℕ) (b : Bool) → (cid.0 == id) ≡ b → IsOneEnd ((if b then cause ∷ [] else []) ++ []) (stage_at id m) (stage_at id inner.machine)
-    by_id id true own =
-        subst (λ i. (stage_at i m ≤ 3) × (stage_ended cause ≤ stage_at i inner.machine) × (stage_at i m ≡ 3 → IsLateCause cause)) (eqb-true cid.0 id own) (early, late, may)
-    by_id id false other = tt
 
 -- ---- a connection comes
 
 given_later : (o : Option Entry) (cid next : ℕ) → stage_of o (nat_lt cid next) ≤ stage_of o (nat_lt cid (next + 1))
-given_later None cid next = by_bool (nat_lt cid next) (λ b. (if b then 5 else 0) ≤ (if nat_lt cid (next + 1) then 5 else 0))
-    (λ is.
-    let later : nat_lt cid (next + 1) ≡ true = grind (arith, is) in
-    subst (λ c. 5 ≤ (if c then 5 else 0)) (sym later) (omega arith))
-    (λ is. omega arith)
-given_later (Some e) cid next = omega arith
+given_later o cid next = grind arith
 
 -- its id is nobody's yet
 none-yet : (m : Machine) → IsOrderly m → entry_at m.next_id m ≡ None
@@ -218,53 +157,32 @@ came-goes_on m new effect cid h id same none named = by_bool (has_id cid new.fac
     let here : m.next_id ≡ cid = sym id ∙ eqb-true new.facts.cid.0 cid own in
     let none_before : entry_at cid m ≡ None = subst (λ c. entry_at c m ≡ None) here (none-yet m h) in
     let not_given : nat_lt cid m.next_id ≡ false = grind (arith, here) in
+    let named_so = one_name cid new.facts.cid Terminated (name_of new.facts) own (named-stands new.facts) in
     went_on cid m effect None (Some new) none_before
-    (ap (entry_at cid) same ∙ find-push_here (λ x. has_id cid x.facts) new m.connections none_before own) none tt
-    (subst (λ names. LeadTo is_other_name same_state Terminated names (name_of new.facts)) (sym named)
-    (one_name cid new.facts.cid Terminated (name_of new.facts) own (named-stands new.facts)))
-    (subst (λ b. (if b then 5 else 0) ≤ stage_of_phase new.facts.phase) (sym not_given) (omega arith)))
+    (ap (entry_at cid) same ∙ find-push_here (λ x. has_id cid x.facts) new m.connections none_before own) none tt (rw named named_so) (rw not_given (omega arith)))
     (λ other.
     went_untold cid m effect (ap (entry_at cid) same ∙ find-push_other (λ x. has_id cid x.facts) new m.connections other) none
-    (named ∙ no_name cid new.facts.cid (name_of new.facts) other)
-    (subst (λ next. stage_at cid m ≤ stage_of (entry_at cid m) (nat_lt cid next)) (sym (ap (λ n. n.next_id) same)) (given_later (entry_at cid m) cid m.next_id)))
+    (named ∙ no_name cid new.facts.cid (name_of new.facts) other) (rw same (given_later (entry_at cid m) cid m.next_id)))
 
 -- it is admitted
 pub admits-told : (m : Machine) (new : Entry) (addr : Addr) → IsOrderly m → new.facts.cid.0 ≡ m.next_id → new.facts.addr ≡ addr →
     IsTold m (entry_comes (Admit (record { 0 = m.next_id }) addr ∷ []) new m)
-admits-told m new addr h id here = record {
-  closes = refl;
-  dials = refl;
-  given = (refl, refl);
-  addresses = (subst (HasAddress addr) (sym (new-found m new h id)) here, tt);
-  peers = λ a. refl;
-  connections = λ cid. came-goes_on m new (entry_comes (Admit (record { 0 = m.next_id }) addr ∷ []) new m) cid h id refl refl refl;
-}
+admits-told m new addr h id here =
+    let goes = λ (cid : ℕ). came-goes_on m new (entry_comes (Admit (record { 0 = m.next_id }) addr ∷ []) new m) cid h id refl refl refl in
+    grind (arith, goes, new-found m new h id, here)
 
 -- it is dialed, as a promotion
 pub dials-told : (m : Machine) (new : Entry) (addr : Addr) → IsOrderly m → new.facts.cid.0 ≡ m.next_id → new.facts.addr ≡ addr →
     IsTold m (as_move (promoted addr) m (entry_comes (Dial (record { 0 = m.next_id }) addr ∷ []) new m))
 dials-told m new addr h id here =
-    let more : nat_lt m.next_id (m.next_id + 1) ≡ true = grind arith in
-    let dial : Given = record { cid = m.next_id; addr = addr } in
-    record {
-      closes = refl;
-      dials = subst (λ b. dial ∷ [] ≡ (if b then dial ∷ [] else []) ++ []) (sym more) refl;
-      given = (refl, refl);
-      addresses = (subst (HasAddress addr) (sym (new-found m new h id)) here, tt);
-      peers = λ a. refl;
-      connections = λ cid.
-          let goes : GoesOn cid m (entry_comes (Dial (record { 0 = m.next_id }) addr ∷ []) new m) =
-          came-goes_on m new (entry_comes (Dial (record { 0 = m.next_id }) addr ∷ []) new m) cid h id refl refl refl in
-          record { names = goes.names; address = goes.address; forward = goes.forward; ends = tt };
-    }
+    let goes = λ (cid : ℕ). came-goes_on m new (entry_comes (Dial (record { 0 = m.next_id }) addr ∷ []) new m) cid h id refl refl refl in
+    let found = new-found m new h id in
+    grind (arith, goes, found, here)
 
 -- ---- a peer changes
 
 pub is_temp : (t u : Temp) → same_temp t u ≡ true → t ≡ u
-is_temp Cold Cold h = refl
-is_temp Warm Warm h = refl
-is_temp Hot Hot h = refl
-is_temp t u h = absurd (false≢true h)
+is_temp t u h = grind arith
 
 noted_temp : (t : Temp) → noted (note_of t) ≡ Some t
 noted_temp Cold = refl
@@ -276,43 +194,18 @@ changes_temp t other h = ap not h
 
 one_note : (a other : Addr) (before after : Option Temp) (note : PeerNote) → same_address other a ≡ true → is_change before note ≡ true → noted note ≡ after →
     LeadTo is_change noted before (notes_in a (TellPeer other note ∷ [])) after
-one_note a other before after note own changes says =
-    subst (λ c. LeadTo is_change noted before ((if c then note ∷ [] else []) ++ []) after) (sym own) (changes, says)
+one_note a other before after note own changes says = grind arith
 
 no_note : (a other : Addr) (note : PeerNote) → same_address other a ≡ false → notes_in a (TellPeer other note ∷ []) ≡ []
 no_note a other note apart = ap (λ c. (if c then note ∷ [] else []) ++ []) apart
 
--- what tells of peers alone
-record IsNoting (actions : List Action) : Type 0 where
-  closes : closes_in actions ≡ []
-  dials : dials_in actions ≡ []
-  given : given_in actions ≡ []
-  names : (cid : ℕ) → names_in cid actions ≡ []
-
 -- Of peers only the one at an address is told of, and no other changes.
-noting-told : (a : Addr) (m : Machine) (effect : Effect) → IsNoting effect.actions → effect.moves ≡ [] → effect.machine.connections ≡ m.connections →
-    effect.machine.next_id ≡ m.next_id → LeadTo is_change noted (temp_at a m) (notes_in a effect.actions) (temp_at a effect.machine) →
+noting-told : (a : Addr) (m : Machine) (effect : Effect) → IsPlain effect.actions → ((cid : ℕ) → names_in cid effect.actions ≡ []) → effect.moves ≡ [] →
+    effect.machine.connections ≡ m.connections → effect.machine.next_id ≡ m.next_id → LeadTo is_change noted (temp_at a m) (notes_in a effect.actions) (temp_at a effect.machine) →
     ((b : Addr) → same_address b a ≡ false → notes_in b effect.actions ≡ []) → ((b : Addr) → same_address b a ≡ false → peer_at b effect.machine ≡ peer_at b m) → IsTold m effect
-noting-told a m effect noting none connections next_id here untold same = record {
-  closes = noting.closes ∙ sym (ap ends_in none);
-  dials = noting.dials ∙ sym (ap dial_promotions_in none);
-  given = subst (λ ns. CountUp m.next_id ns effect.machine.next_id) (sym noting.given) (sym next_id);
-  addresses = subst (λ gs. AreAt gs effect.machine) (sym noting.given) tt;
-  peers = λ b. by_bool (same_address b a) (λ c. LeadTo is_change noted (temp_at b m) (notes_in b effect.actions) (temp_at b effect.machine))
-      (λ is. subst (λ x. LeadTo is_change noted (temp_at x m) (notes_in x effect.actions) (temp_at x effect.machine)) (sym (same_address-true b a is)) here)
-      (λ other. subst (λ notes. LeadTo is_change noted (temp_at b m) notes (temp_at b effect.machine)) (sym (untold b other)) (ap temp_of (sym (same b other))));
-  connections = λ cid.
-      went_untold cid m effect (ap (find (λ e. has_id cid e.facts)) connections) none (noting.names cid)
-      (subst (λ next. stage_at cid m ≤ stage_of (entry_at cid m) (nat_lt cid next)) (sym next_id) (omega arith));
-}
-
-turn-noting : (same : Bool) (addr : Addr) (note : PeerNote) → IsNoting (if same then [] else TellPeer addr note ∷ [])
-turn-noting true addr note = record { closes = refl; dials = refl; given = refl; names = λ cid. refl }
-turn-noting false addr note = record { closes = refl; dials = refl; given = refl; names = λ cid. refl }
-
-turns_at-noting : (o : Option Peer) (change : Peer → Peer) (m : Machine) → IsNoting (turns_at o change m).actions
-turns_at-noting None change m = record { closes = refl; dials = refl; given = refl; names = λ cid. refl }
-turns_at-noting (Some p) change m = turn-noting (same_temp p.temp (change p).temp) p.addr (note_of (change p).temp)
+noting-told a m effect plain names none connections next_id here untold same =
+    plain-told m effect plain none next_id (λ b. grind (arith, same_address-true b a, here, untold b, same b))
+    (λ cid. went_untold cid m effect (ap (find (λ e. has_id cid e.facts)) connections) none (names cid) (grind (arith, next_id)))
 
 pub turns_at-moves : (o : Option Peer) (change : Peer → Peer) (m : Machine) → (turns_at o change m).moves ≡ []
 turns_at-moves None change m = refl
@@ -329,54 +222,26 @@ turns_at-next (Some p) change m = refl
 -- a change that leaves the address
 pub changes-told : (a : Addr) (change : Peer → Peer) (m : Machine) → ((p : Peer) → (change p).addr ≡ p.addr) → IsTold m (peer_changes a change m)
 changes-told a change m same =
-    noting-told a m (peer_changes a change m) (turns_at-noting (peer_at a m) change m) (turns_at-moves (peer_at a m) change m) (turns_at-connections (peer_at a m) change m)
-    (turns_at-next (peer_at a m) change m)
-    (subst (λ o. LeadTo is_change noted (temp_at a m) (notes_in a (peer_changes a change m).actions) (temp_of o)) (sym (changed-found a change m same)) (by_peer (peer_at a m) refl))
-    (λ b other. other_note b other (peer_at a m) refl) (turns_at-elsewhere a change m same)
-  where
-    by_peer : (o : Option Peer) → peer_at a m ≡ o → LeadTo is_change noted (temp_of o) (notes_in a (turns_at o change m).actions) (temp_of (option_map change o))
-    by_peer None is = refl
-    by_peer (Some p) is = cond_both (same_temp p.temp (change p).temp) [] (TellPeer p.addr (note_of (change p).temp) ∷ [])
-        (λ actions. LeadTo is_change noted (Some p.temp) (notes_in a actions) (Some (change p).temp)) (λ still. ap Some (is_temp p.temp (change p).temp still))
-        (λ turns. one_note a p.addr (Some p.temp) (Some (change p).temp) (note_of (change p).temp)
-        (subst (λ x. same_address p.addr x ≡ true) (found-addr a m.peers p is) (same_address-self p.addr)) (changes_temp p.temp (change p).temp turns) (noted_temp (change p).temp))
-
-    other_note : (b : Addr) → same_address b a ≡ false → (o : Option Peer) → peer_at a m ≡ o → notes_in b (turns_at o change m).actions ≡ []
-    other_note b other None is = refl
-    other_note b other (Some p) is =
-        let apart : same_address p.addr b ≡ false = subst (λ x. same_address x b ≡ false) (sym (found-addr a m.peers p is)) (same_turned b a other) in
-        cond_both (same_temp p.temp (change p).temp) [] (TellPeer p.addr (note_of (change p).temp) ∷ []) (λ actions. notes_in b actions ≡ [])
-        (λ still. refl) (λ turns. no_note b p.addr (note_of (change p).temp) apart)
+    let goes : LeadTo is_change noted (temp_at a m) (notes_in a (peer_changes a change m).actions) (temp_of (option_map change (peer_at a m))) =
+    grind (arith, found-addr a m.peers, same_address-self a, noted_temp, is_temp, one_note, changes_temp) in
+    noting-told a m (peer_changes a change m) (grind arith) (λ cid. grind arith) (turns_at-moves (peer_at a m) change m) (turns_at-connections (peer_at a m) change m)
+    (turns_at-next (peer_at a m) change m) (grind (arith, changed-found a change m same, goes)) (λ b other. grind (arith, found-addr a m.peers, same_turned b a other, no_note)) (turns_at-elsewhere a change m same)
 
 -- ---- a peer comes and goes
 
 pub peer_comes-told : (big : Bool) (a : Addr) (m : Machine) → IsTold m (peer_comes big a m)
 peer_comes-told big a m =
-    cond_both (is_some (peer_at a m)) Present (if nat_le most_peers (length m.peers) then Full else New) (λ added. IsTold m (came added))
-    (λ is. told_unchanged m (came Present) mute-none refl (record { connections = refl; peers = refl; next_id = refl }))
-    (λ is. cond_both (nat_le most_peers (length m.peers)) Full New (λ added. IsTold m (came added))
-    (λ full. told_unchanged m (came Full) mute-none refl (record { connections = refl; peers = refl; next_id = refl })) (λ room. comes (none_there (peer_at a m) is)))
-  where
-    new : Peer
-    new = new_peer big a
-
-    came : Added → Effect
-    came added = note_of_coming added a (record m { peers = entered_by added new m.peers })
-
-    comes : peer_at a m ≡ None → IsTold m (came New)
-    comes none =
-        noting-told a m (came New) (turn-noting false a note.Known) refl refl refl
-        (subst (λ o. LeadTo is_change noted (temp_at a m) (notes_in a (came New).actions) (temp_of o)) (sym (put_in-here new m.peers none))
-        (subst (λ o. LeadTo is_change noted (temp_of o) (notes_in a (came New).actions) (Some Cold)) (sym none) (one_note a a None (Some Cold) note.Known (same_address-self a) refl refl)))
-        (λ b other. no_note b a note.Known (same_turned b a other)) (λ b other. put_in-elsewhere new b m.peers other)
+    let new : Peer = new_peer big a in
+    let came : Added → Effect = λ added. note_of_coming added a (record m { peers = entered_by added new m.peers }) in
+    let comes : peer_at a m ≡ None → IsTold m (came New) =
+    λ none.
+    noting-told a m (came New) (record { closes = refl; dials = refl; given = refl }) (λ cid. refl) refl refl refl
+    (grind (arith, put_in-here new m.peers none, none, one_note a a None (Some Cold) note.Known (same_address-self a) refl refl))
+    (λ b other. no_note b a note.Known (same_turned b a other)) (λ b other. put_in-elsewhere new b m.peers other) in
+    grind (arith, comes, none_there (peer_at a m), told_unchanged m (came Present) mute-none, told_unchanged m (came Full) mute-none)
 
 -- of a peer that is there
 pub peer_goes-told : (a : Addr) (m : Machine) → is_some (peer_at a m) ≡ true → IsTold m (peer_goes a m)
 peer_goes-told a m there =
-    noting-told a m (peer_goes a m) (turn-noting false a note.Forgotten) refl refl refl
-    (one_note a a (temp_at a m) (temp_at a (peer_goes a m).machine) note.Forgotten (same_address-self a) (was (peer_at a m) there) (ap temp_of (sym (taken-here a m.peers))))
-    (λ b other. no_note b a note.Forgotten (same_turned b a other)) (λ b other. taken-elsewhere a b m.peers other)
-  where
-    was : (o : Option Peer) → is_some o ≡ true → is_change (temp_of o) note.Forgotten ≡ true
-    was None none = none
-    was (Some p) is = refl
+    noting-told a m (peer_goes a m) (record { closes = refl; dials = refl; given = refl }) (λ cid. refl) refl refl refl
+    (grind (arith, there, taken-here, one_note, same_address-self)) (λ b other. no_note b a note.Forgotten (same_turned b a other)) (λ b other. taken-elsewhere a b m.peers other)

@@ -1,7 +1,7 @@
 -- Where more connections are counted than the hard limit, one of them goes.
-use Rattle.std.proofs.Common.{ℕ, suc, ◌+◌, ◌≤◌, ◌<◌, ◌≡◌, Bool, true, false, not, ◌&&◌, ◌||◌, nat_le, if◌then◌else◌, List, [], ◌∷◌, ◌++◌, map, filter_map, find, Option, Some, None, refl, sym, ap, ◌∙◌, subst, arith, eq-eqb, leb-true, leb-false, All}
-use Rattle.laws.proofs.Words.{cond_both, both_ways, and_parts, not-true, All-head, All-tail, All-from_recursion, recursion_from_All, first_to_go-law}
-use Rattle.laws.specs.Words.{AllByRecursion, cons_option, option_map, unwrap_or, Settings, CloseCause, Pruned, Cid, Facts, IsFirstToGo, is_candidate, rank_of_candidate, goes_before, first_of, first_to_go, Candidate, is_counted, has_id, is_live, live_phase, is_greeting, is_greeting_phase, is_negotiated, is_negotiated_phase, is_outbound, Phase, Closing, Machine, Entry, counted_in, entry_at, Effect, Happened, Move, nothing_more, then_do, as_move, for_each, on_entry, without_entry, lost, ending, candidate_of, candidates_in, trim}
+use Rattle.std.proofs.Common.{ℕ, ◌+◌, ◌≤◌, ◌<◌, ◌≡◌, Bool, true, false, nat_le, if◌then◌else◌, List, [], ◌∷◌, ◌++◌, map, filter_map, find, Option, Some, None, refl, sym, ap, ◌∙◌, subst, arith, eq-eqb, leb-true, leb-false, All}
+use Rattle.laws.proofs.Words.{cond_both, All-head, All-tail, All-from_recursion, recursion_from_All, first_to_go-law}
+use Rattle.laws.specs.Words.{AllByRecursion, cons_option, option_map, unwrap_or, Settings, CloseCause, Pruned, Cid, Facts, IsFirstToGo, is_candidate, rank_of_candidate, goes_before, first_of, first_to_go, Candidate, is_counted, has_id, is_live, is_negotiated, Machine, Entry, counted_in, entry_at, Effect, Happened, Move, nothing_more, then_do, as_move, for_each, on_entry, without_entry, lost, ending, candidate_of, candidates_in, trim}
 use Rattle.laws.specs.AtMoves.{as_candidate, IsDueToGo, IsPrunedRightly, IsLawful}
 use Rattle.laws.specs.Laws.{LocalsAreOrdinary}
 use Rattle.laws.specs.Sound.{IsOrderly}
@@ -17,7 +17,7 @@ use Rattle.laws.proofs.Lawful.{Accounts, accounts_then, accounts_move, Obeys, ob
 use Rattle.laws.proofs.Moves.{gone-counts}
 use Rattle.laws.proofs.Lists.{StandsAt, stands_next, find_only, all-weaker, all-appended, all-both}
 use Rattle.laws.proofs.WholeMoves.{IsLost, ending-keeps}
-use Rattle.laws.proofs.Cases.{by_bool, by_option, some_same}
+use Rattle.laws.proofs.Cases.{by_bool, by_option}
 
 -- ---- whoever is chosen is counted
 
@@ -36,29 +36,13 @@ pub record Goes (es : List Entry) (c : Candidate) : Type 0 where
   pub facts : IsCandidateAs entry.facts c
 
 goes_next : (e : Entry) (es : List Entry) (c : Candidate) → Goes es c → Goes (e ∷ es) c
-goes_next e es c g = record {
-  entry = g.entry;
-  place = suc g.place;
-  stands = stands_next e g.entry es g.place g.stands;
-  facts = g.facts;
-}
+goes_next e es c g = grind (arith, stands_next e g.entry es g.place g.stands)
 
 abbrev candidates_among : List Entry → List Candidate
 candidates_among es = filter_map candidate_of (map (λ e. e.facts) es)
 
 candidate-counted : (f : Facts) (c : Candidate) → candidate_of f ≡ Some c → IsCandidateAs f c
-candidate-counted f c e = by_test (is_candidate f) refl e
-  where
-    by_test : (b : Bool) → is_candidate f ≡ b →
-        option_map (λ rank. record { cid = f.cid; rank = rank }) (if b then Some (rank_of_candidate f) else None) ≡ Some c → IsCandidateAs f c
-    by_test true is same =
-        let parts = and_parts (is_counted f) (not f.local) is in
-        record { same = ap (λ o. cid_of f.cid o) same; counted = parts.0; unused = not-true f.local parts.1; may = is; ranked = some_same _ c same }
-      where
-        cid_of : Cid → Option Candidate → Cid
-        cid_of d None = d
-        cid_of d (Some x) = x.cid
-    by_test false is same = absurd cc
+candidate-counted f c e = grind (arith, e)
 
 pub goes_among : (es : List Entry) (c : Candidate) → first_to_go (candidates_among es) ≡ Some c → Goes es c
 unfolding first_to_go
@@ -69,8 +53,7 @@ goes_among (x ∷ es) c e = by_option (candidate_of x.facts)
     (λ d is later same. by_rest d (first_to_go (candidates_among es)) is later same) (goes_among es) e
   where
     here : (d : Candidate) → candidate_of x.facts ≡ Some d → d ≡ c → Goes (x ∷ es) c
-    here d is same =
-        record { entry = x; place = 0; stands = record { inside = omega arith; is = refl }; facts = subst (IsCandidateAs x.facts) same (candidate-counted x.facts d is) }
+    here d is same = grind (arith, candidate-counted x.facts d is)
 
     by_rest : (d : Candidate) (o : Option Candidate) → candidate_of x.facts ≡ Some d →
         ((a : Candidate) → o ≡ Some a → Goes es a) → Some (first_of d o) ≡ Some c → Goes (x ∷ es) c
@@ -85,11 +68,7 @@ goes_among (x ∷ es) c e = by_option (candidate_of x.facts)
 -- what holds of each candidate holds of each connection that may go
 may_go-all : (P : Candidate → Type 0) (es : List Entry) → AllByRecursion P (candidates_among es) → AllByRecursion (λ f. is_candidate f.facts ≡ true → P (as_candidate f)) es
 may_go-all P [] h = tt
-may_go-all P (f ∷ es) h = by_bool (is_candidate f.facts)
-    (λ b. (AllByRecursion P (candidates_among es) → AllByRecursion (λ x. is_candidate x.facts ≡ true → P (as_candidate x)) es) →
-    AllByRecursion P (cons_option (option_map (λ rank. record { cid = f.facts.cid; rank = rank }) (if b then Some (rank_of_candidate f.facts) else None)) (candidates_among es)) →
-    (is_candidate f.facts ≡ true → P (as_candidate f)) × AllByRecursion (λ x. is_candidate x.facts ≡ true → P (as_candidate x)) es)
-    (λ is later h. (λ may. h.0, later h.1)) (λ is later h. (λ may. absurd (both_ways (is_candidate f.facts) is may), later h)) (may_go-all P es) h
+may_go-all P (f ∷ es) h = grind (arith, may_go-all P es)
 
 choice_law : (m : Machine) (o : Option Candidate) → first_to_go (candidates_in m) ≡ o → IsFirstToGo o (candidates_in m)
 choice_law m o is = subst (λ c. IsFirstToGo c (candidates_in m)) is (first_to_go-law (candidates_in m))
@@ -143,15 +122,7 @@ nothing-trimmed Law m within h = keeps-trimmed Law m (nothing_more m) within (ke
 
 -- what is counted stands open
 counted-live : (f : Facts) → is_counted f ≡ true → is_live f ≡ true
-counted-live f h = by_phase f.phase refl
-  where
-    uncounted : is_greeting f ≡ false → is_negotiated f ≡ false → is_counted f ≡ false
-    uncounted g n = rw (g, n) (by_bool (not (is_outbound f)) (λ b. ((b && false) || false || false) ≡ false)
-        (λ is. refl) (λ is. refl))
-
-    by_phase : (p : Phase) → f.phase ≡ p → is_live f ≡ true
-    by_phase (Closing until) is = absurd (both_ways (is_counted f) (uncounted (ap is_greeting_phase is) (ap is_negotiated_phase is)) h)
-    by_phase other is = ap live_phase is
+counted-live f h = grind arith
 
 pruned-trims : (m : Machine) (e : Entry) (k : ℕ) → IsOrdered m → StandsAt m.connections k e → IsDueToGo e m → Trimmed IsLawful m (ending Pruned e m)
 pruned-trims m e k h s due =
@@ -206,9 +177,7 @@ trim-trims moved m h most over = cond_both (nat_le (counted_in m) m.settings.har
 
 pruned-used : (q : Entry → Bool) → ((x : Entry) → x.facts.local ≡ false → q x ≡ false) → (m : Machine) (e : Entry) (k : ℕ) → IsOrderly m →
     StandsAt m.connections k e → e.facts.local ≡ false → find q (ending Pruned e m).machine.connections ≡ find q m.connections
-pruned-used q only m e k h s unused =
-    ap (find q) (lost-connections e.facts (without_entry e.facts.cid.0 m) ∙ gone-connections m e k h s)
-    ∙ find-remove_other q e m.connections k s (only e unused)
+pruned-used q only m e k h s unused = grind (arith, lost-connections e.facts (without_entry e.facts.cid.0 m), gone-connections m e k h s, find-remove_other q e m.connections k s (only e unused))
 
 pub trim-used : (q : Entry → Bool) → ((x : Entry) → x.facts.local ≡ false → q x ≡ false) → (moved : Cid) (m : Machine) (e : Entry) (k : ℕ) → IsOrderly m →
     StandsAt m.connections k e → e.facts.cid ≡ moved → e.facts.local ≡ false → find q (trim moved m).machine.connections ≡ find q m.connections
@@ -279,6 +248,4 @@ for_each_that-trimmed Law P act each (x ∷ xs) m h within all =
 -- every move keeps another law that the first one and a second one give
 pub trimmed_both : (P Q R : Move → Type 0) → ((move : Move) → P move → Q move → R move) → (m : Machine) (effect : Effect) → Trimmed P m effect →
     AllByRecursion Q effect.moves → Trimmed R m effect
-trimmed_both P Q R gives m effect h also =
-    let lawful : IsTied m → AllByRecursion R effect.moves = λ ties. all-both P Q R gives effect.moves (h.lawful ties) also in
-    assumption
+trimmed_both P Q R gives m effect h also = grind (arith, all-both)

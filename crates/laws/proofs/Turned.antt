@@ -1,19 +1,18 @@
 -- What becomes of the connection that a part of an event is about.
-use Rattle.std.proofs.Common.{ℕ, ◌+◌, ◌<◌, ◌≡◌, Bool, true, false, ◌&&◌, ◌==◌, if◌then◌else◌, [], ◌∷◌, find, Option, Some, None, Result, Ok, Err, refl, sym, ap, ◌∙◌, subst, eq-eqb, eqb-true}
-use Rattle.laws.proofs.Words.{cond_both, both_ways, and_parts, and_from, false≢true, false_from_ne_true}
-use Rattle.laws.specs.Words.{option_map, connected, agreed_inbound, agreed_outbound, acquired, released, awakened, idled, expired, has_id, is_acquirable, is_dialing, is_live, is_live_at, agreed_sharing, runs, Order, Ask, Forget, Promote, Release, Activate, Deactivate, verdict_of, answer_of, Verdict, message_of, Message, kind_of, CutFault, Item, same_address, Close, CloseCause, Unused, Refused, Query, Fault, FaultKind, Protocol, HandshakeWait, ReplyWait, Addr, Phase, Greeting, Negotiated, Cold, Warm, Kind, watched, Seen, with_entry, entry_turns, ending, vanishes, closing_entry, acquire, trim, release, awake, idle, dial, dial_opens, dial_fails, fires_as, Effect, unused, nothing_more, tells, then_do, as_move, on_entry, closes, dialed, promoted_at, is_used_at, on_used, asks_peer, activates, deactivates, carries_out, role_of, judged, decided, greets, Machine, Entry, entry_at, live_entry_at, own_info, peer_at, owing, paid, handled_in, handled, faulted, stops_if, serves, begins, brings, Facts, is_used, on_connection}
+use Rattle.std.proofs.Common.{ℕ, ◌+◌, ◌<◌, ◌≡◌, Bool, true, false, ◌&&◌, ◌==◌, if◌then◌else◌, find, Option, Some, None, Result, Ok, Err, refl, sym, ap, ◌∙◌, subst, eqb-true, arith}
+use Rattle.laws.proofs.Words.{cond_both, and_parts, false≢true}
+use Rattle.laws.specs.Words.{connected, agreed_inbound, agreed_outbound, acquired, released, awakened, idled, expired, has_id, is_acquirable, is_dialing, is_live, is_live_at, agreed_sharing, runs, Order, Ask, Forget, Promote, Release, Activate, Deactivate, verdict_of, answer_of, Verdict, message_of, Message, kind_of, CutFault, Item, same_address, CloseCause, Refused, Query, Fault, FaultKind, Protocol, Addr, Phase, Greeting, Negotiated, Kind, watched, Seen, with_entry, ending, vanishes, closing_entry, acquire, trim, release, dial, fires_as, Effect, then_do, on_entry, closes, dialed, promoted_at, is_used_at, on_used, asks_peer, activates, carries_out, role_of, judged, greets, Machine, Entry, entry_at, live_entry_at, own_info, peer_at, owing, paid, handled_in, handled, faulted, serves, begins, brings, Facts, is_used, on_connection}
 use Rattle.laws.specs.Words.verdict
 use Rattle.laws.specs.Words.kind
 use Rattle.laws.specs.Acts.{Act, fires_one, carries, ends_dial, stores, handles_item, ends_stream, is_closed, does}
-use Rattle.laws.specs.Sound.{HasGivenId}
-use Rattle.laws.specs.Untouched.{address_of, is_with, is_about, IsAsItWas}
-use Rattle.laws.specs.Steady.{IsShaped, IsOrdered}
+use Rattle.laws.specs.Untouched.{address_of, is_about, IsAsItWas}
+use Rattle.laws.specs.Steady.{IsOrdered}
 use Rattle.laws.proofs.Addresses.{same_address-true}
 use Rattle.laws.proofs.CarriedOut.{used_one}
 use Rattle.laws.proofs.Goes.{vanishes-none}
-use Rattle.laws.proofs.Walk.{answer-machine, replies-machine, Finds, Stands, found-stands, Scope, taken, on_those, trim-walk, brings-walk, acquire-walk, release-walk, asks_peer-walk, activates-walk, begins-walk, is_released, turned_by, cooled, release-machine}
+use Rattle.laws.proofs.Walk.{own_id, StandsOpen, answer-machine, replies-machine, Finds, Stands, found-stands, Scope, taken, on_those, trim-walk, brings-walk, acquire-walk, release-walk, asks_peer-walk, activates-walk, begins-walk, is_released, turned_by, cooled, release-machine}
 use Rattle.laws.proofs.Lawful.{stands-found}
-use Rattle.laws.proofs.Lists.{FoundIn, find_some, find_only, All-stands}
+use Rattle.laws.proofs.Lists.{FoundIn, find_some, find_only}
 use Rattle.laws.proofs.Moments.{gone-none, ending-none, turned-found}
 use Rattle.laws.proofs.Shapes.{local-negotiated, can_acquire}
 use Rattle.laws.proofs.Ties.{live_here}
@@ -83,9 +82,7 @@ stands-becomes : (e : Entry) (m : Machine) → entry_at e.facts.cid.0 m ≡ Some
 stands-becomes e m is = subst (IsAsItWas (Some e)) (sym is) refl
 
 turned-becomes : (e new : Entry) (m : Machine) → new.facts.cid ≡ e.facts.cid → Becomes (Some new) e.facts.cid.0 (with_entry new m)
-turned-becomes e new m same = subst (IsAsItWas (Some new)) (sym (turned-found e new m same)) (by_option (entry_at e.facts.cid.0 m)
-    (λ o. IsAsItWas (Some new) (option_map (λ x. new) o))
-    (λ is. tt) (λ f is. refl))
+turned-becomes e new m same = grind (arith, turned-found e new m same)
 
 pub ending-becomes : (o : Option Entry) (cause : CloseCause) (e : Entry) (m : Machine) → Becomes o e.facts.cid.0 (ending cause e m).machine
 ending-becomes o cause e m = gone-becomes o e.facts.cid.0 (ending cause e m).machine (ending-none cause e m)
@@ -102,43 +99,31 @@ then-becomes o cid m n given h w = was_then o (entry_at cid m) (entry_at cid n) 
 
 -- it comes into use
 used_so : (f : Facts) (e : Entry) (m : Machine) → f.cid ≡ e.facts.cid → Becomes (Some (taken f e m)) e.facts.cid.0 (is_used f e m).machine
-used_so f e m same =
-    let n : Machine = with_entry (taken f e m) m in
-    subst (λ es. IsAsItWas (Some (taken f e m)) (find (λ x. has_id e.facts.cid.0 x.facts) es))
-    (sym (turns_at-connections (peer_at f.addr n) (λ p. record p { temp = Warm; failures = 0 }) n)) (turned-becomes e (taken f e m) m same)
+used_so f e m same = grind (arith, taken f e m, turned-becomes e (taken f e m) m same, turns_at-connections)
 
 -- what is done with this one alone
 abbrev alone : Entry → Scope
 alone g = on_those (λ cid. g.facts.cid.0 == cid)
 
 stands_alone : (e : Entry) (m : Machine) → entry_at e.facts.cid.0 m ≡ Some e → Stands (alone e) e m
-stands_alone e m is = found-stands (alone e) e.facts.cid.0 m e is (eq-eqb e.facts.cid.0 e.facts.cid.0 refl)
+stands_alone e m is = found-stands (alone e) e.facts.cid.0 m e is (own_id e.facts.cid.0)
+
+open_alone : (e : Entry) (m : Machine) → entry_at e.facts.cid.0 m ≡ Some e → is_live e.facts ≡ true → StandsOpen (alone e) e m
+open_alone e m is live = record { may = refl; found = is; own = own_id e.facts.cid.0; live = live }
 
 -- ---- a deadline
 
 fires-becomes : (sort : Kind) (e : Entry) (m : Machine) → Becomes (turned_by_kind sort e m) e.facts.cid.0 (fires_as sort e m).machine
-fires-becomes kind.Handshake e m = ending-becomes None (Fault HandshakeWait) e m
-fires-becomes kind.Grace e m = by_bool e.facts.local
-    (λ b. Becomes (Some (if b then record e { facts = expired e.facts } else closing_entry m e)) e.facts.cid.0
-    (if b then entry_turns e (record e { facts = expired e.facts }) m
-    else as_move (unused e.facts.cid.0) m (then_do (tells (Close e.facts.cid Unused ∷ []) m) (entry_turns e (closing_entry m e)))).machine)
-    (λ is. turned-becomes e (record e { facts = expired e.facts }) m refl) (λ is. turned-becomes e (closing_entry m e) m refl)
-fires-becomes kind.TimeWait e m = gone-becomes None e.facts.cid.0 (fires_as kind.TimeWait e m).machine (gone-none e.facts.cid.0 m)
-fires-becomes other e m = ending-becomes None (Fault ReplyWait) e m
+fires-becomes sort e m = grind (arith, turned-becomes, gone-becomes, gone-none, ending-becomes)
 
 dialed-becomes : (opened : Bool) (e : Entry) (m : Machine) → entry_at e.facts.cid.0 m ≡ Some e →
     Becomes (Some (if is_dialing e.facts && opened then record e { facts = connected (m.now + m.settings.handshake) e.facts } else e)) e.facts.cid.0 (dialed opened e m).machine
-dialed-becomes opened e m is = by_tests (is_dialing e.facts) opened
-  where
-    by_tests : (b c : Bool) → Becomes (Some (if b && c then record e { facts = connected (m.now + m.settings.handshake) e.facts } else e)) e.facts.cid.0
-        (if b then (if c then dial_opens e m else dial_fails e m) else nothing_more m).machine
-    by_tests true true = turned-becomes e (record e { facts = connected (m.now + m.settings.handshake) e.facts }) m refl
-    by_tests true false = vanishes-becomes (Some e) e m
-    by_tests false c = stands-becomes e m is
+dialed-becomes opened e m is =
+    let opens = turned-becomes e (record e { facts = connected (m.now + m.settings.handshake) e.facts }) m refl in
+    grind (arith, opens, vanishes-becomes (Some e) e m, stands-becomes e m is)
 
 closes-becomes : (e : Entry) (m : Machine) → entry_at e.facts.cid.0 m ≡ Some e → Becomes (Some e) e.facts.cid.0 (closes e m).machine
-closes-becomes e m is = cond_both (is_live e.facts) (vanishes e m) (nothing_more m) (λ effect. Becomes (Some e) e.facts.cid.0 effect.machine)
-    (λ live. vanishes-becomes (Some e) e m) (λ closed. stands-becomes e m is)
+closes-becomes e m is = grind (arith, vanishes-becomes (Some e) e m, stands-becomes e m is)
 
 faulted-becomes : (fault : Option CutFault) (e : Entry) (m : Machine) → entry_at e.facts.cid.0 m ≡ Some e → Becomes (Some e) e.facts.cid.0 (faulted fault e m).machine
 faulted-becomes None e m is = stands-becomes e m is
@@ -158,28 +143,20 @@ greets-becomes item e m = greets-cases item e m (λ effect. Becomes (turned_by_m
     (λ fault. ending-becomes (turned_by_message (message_of item.body) e m) (Fault fault) e m)
     (λ msg is.
     let v : Verdict = verdict_of (role_of e.facts.provenance) (own_info m.settings) msg in
-    subst (λ o. Becomes (turned_by_message o e m) e.facts.cid.0 (decided v e m).machine) (sym is)
-    (subst (λ n. Becomes (turned_by_verdict v e m) e.facts.cid.0 (judged v e n).machine) (sym (answer-machine (answer_of v (own_info m.settings)) e.facts.cid m)) (judged-becomes v e m)))
+    rw (is, answer-machine (answer_of v (own_info m.settings)) e.facts.cid m) (judged-becomes v e m))
 
 -- ---- an item once the handshake is done
 
 serves-becomes : (seen : Seen) (protocol : ℕ) (e : Entry) (m : Machine) → entry_at e.facts.cid.0 m ≡ Some e →
     Becomes (Some (stopped seen.done protocol (m.now + m.settings.idle) e)) e.facts.cid.0 (serves seen protocol e m).machine
-serves-becomes seen protocol e m is =
-    subst (λ n. Becomes (Some (stopped seen.done protocol (m.now + m.settings.idle) e)) e.facts.cid.0 (stops_if seen.done protocol e n).machine) (sym (replies-machine seen.reply protocol e m))
-    (by_bool seen.done
-    (λ b. Becomes (Some (stopped b protocol (m.now + m.settings.idle) e)) e.facts.cid.0 (if b then idle protocol e m else nothing_more m).machine)
-    (λ done. turned-becomes e (record e { facts = idled protocol (m.now + m.settings.idle) e.facts }) m refl)
-    (λ more. stands-becomes e m is))
+serves-becomes seen protocol e m is = grind (arith, replies-machine seen.reply protocol e m, stands-becomes e m is, turned-becomes)
 
 pub begins-becomes : (protocol : ℕ) (e : Entry) (m : Machine) → e.facts.cid.0 < m.next_id → entry_at e.facts.cid.0 m ≡ Some e → Becomes (Some (begun protocol e)) e.facts.cid.0 (begins protocol e m).machine
 begins-becomes protocol e m given is =
     let new : Entry = record e { facts = awakened protocol e.facts } in
     let n : Machine = with_entry new m in
-    by_bool (runs protocol e.facts.running)
-    (λ b. Becomes (Some (if b then e else new)) e.facts.cid.0 (if b then nothing_more m else awake protocol e m).machine)
-    (λ running. stands-becomes e m is)
-    (λ silent. then-becomes (Some new) e.facts.cid.0 n (trim e.facts.cid n).machine given (turned-becomes e new m refl) (trim-walk nobody (Waited nobody) (waits-kept nobody) e.facts.cid n))
+    let awakes = then-becomes (Some new) e.facts.cid.0 n (trim e.facts.cid n).machine given (turned-becomes e new m refl) (trim-walk nobody (Waited nobody) (waits-kept nobody) e.facts.cid n) in
+    grind (arith, stands-becomes e m is, awakes)
 
 served-becomes : (seen : Seen) (protocol : ℕ) (e : Entry) (m : Machine) → e.facts.cid.0 < m.next_id → entry_at e.facts.cid.0 m ≡ Some e →
     Becomes (Some (stopped seen.done protocol (m.now + m.settings.idle) (begun protocol e))) e.facts.cid.0 (then_do (begins protocol e m) (on_connection e.facts.cid (serves seen protocol))).machine
@@ -222,45 +199,31 @@ record Ordered (addr : Addr) (m : Machine) (e : Entry) : Type 0 where
   here : same_address e.facts.addr addr ≡ true
 
 pub given_id : (m : Machine) (e : Entry) → IsOrdered m → entry_at e.facts.cid.0 m ≡ Some e → e.facts.cid.0 < m.next_id
-given_id m e h is =
-    let place : FoundIn (λ x. has_id e.facts.cid.0 x.facts) m.connections e = find_some (λ x. has_id e.facts.cid.0 x.facts) m.connections e is in
-    (All-stands (HasGivenId m.next_id) m.connections place.place e place.stands h.orderly.ids_given).1
+given_id m e h is = grind (arith, find_some (λ x. has_id e.facts.cid.0 x.facts) m.connections e is)
 
 -- where it has no test that another has, what changes that one leaves it
 other-becomes : (test : Entry → Bool) (m n : Machine) (e g : Entry) → IsOrdered m → entry_at e.facts.cid.0 m ≡ Some e → entry_at g.facts.cid.0 m ≡ Some g → test e ≡ false → test g ≡ true →
     Waits (alone g) m n → Becomes (Some e) e.facts.cid.0 n
 other-becomes test m n e g h is at fails passes w =
-    was_then (Some e) (entry_at e.facts.cid.0 m) (entry_at e.facts.cid.0 n) (stands-becomes e m is)
-    ((w.each e.facts.cid.0).others (false_from_ne_true (g.facts.cid.0 == e.facts.cid.0) apart) (given_id m e h is))
-  where
-    apart : (g.facts.cid.0 == e.facts.cid.0) ≡ true → ⊥
-    apart same =
-        let one : Some g ≡ Some e = sym at ∙ (ap (λ c. entry_at c m) (eqb-true g.facts.cid.0 e.facts.cid.0 same) ∙ is) in
-        let it : g ≡ e = cc in
-        both_ways (test e) fails (ap test (sym it) ∙ passes)
+    let apart : (g.facts.cid.0 == e.facts.cid.0) ≡ false = grind (arith, is, at, fails, passes) in
+    was_then (Some e) (entry_at e.facts.cid.0 m) (entry_at e.facts.cid.0 n) (stands-becomes e m is) ((w.each e.facts.cid.0).others apart (given_id m e h is))
 
 -- the one in use is the one that an order finds
 used-found : (addr : Addr) (m : Machine) (e : Entry) → Ordered addr m e → e.facts.local ≡ true → find (is_used_at addr) m.connections ≡ Some e
-used-found addr m e o local =
-    let place : FoundIn (λ x. has_id e.facts.cid.0 x.facts) m.connections e = find_some (λ x. has_id e.facts.cid.0 x.facts) m.connections e o.is in
-    let shape : IsShaped e.facts = All-stands (λ x. IsShaped x.facts) m.connections place.place e place.stands o.ordered.formed.shaped in
-    let live : is_live e.facts ≡ true = negotiated-live e.facts.phase (local-negotiated e.facts shape local) in
-    find_only (is_used_at addr) e m.connections place.place (used_one addr m o.ordered.orderly) place.stands
-    (and_from (is_live_at addr e.facts) e.facts.local (and_from (same_address e.facts.addr addr) (is_live e.facts) o.here live) local)
+used-found addr m e o local = grind (arith, find_some (λ x. has_id e.facts.cid.0 x.facts) m.connections e o.is, used_one addr m o.ordered.orderly, negotiated-live, local-negotiated, find_only)
 
 used-becomes : (addr : Addr) (act : Entry → Machine → Effect) (new : Entry) (m : Machine) (e : Entry) → Ordered addr m e →
-    ((g : Entry) → Stands (alone g) g m → Waits (alone g) m (act g m).machine) → Becomes (Some new) e.facts.cid.0 (act e m).machine →
+    ((g : Entry) → StandsOpen (alone g) g m → Waits (alone g) m (act g m).machine) → Becomes (Some new) e.facts.cid.0 (act e m).machine →
     Becomes (Some (if e.facts.local then new else e)) e.facts.cid.0 (on_used addr act m).machine
-used-becomes addr act new m e o others turns = by_bool e.facts.local
-    (λ b. Becomes (Some (if b then new else e)) e.facts.cid.0 (on_used addr act m).machine)
-    (λ local. subst (λ x. Becomes (Some new) e.facts.cid.0 (on_entry x act m).machine) (sym (used-found addr m e o local)) turns)
-    (λ not_used. by_option (find (is_used_at addr) m.connections) (λ found. Becomes (Some e) e.facts.cid.0 (on_entry found act m).machine)
-    (λ none. stands-becomes e m o.is)
-    (λ g at.
+used-becomes addr act new m e o others turns =
+    let other : (g : Entry) → find (is_used_at addr) m.connections ≡ Some g → e.facts.local ≡ false → Becomes (Some e) e.facts.cid.0 (act g m).machine =
+    λ g at not_used.
     let place : FoundIn (is_used_at addr) m.connections g = find_some (is_used_at addr) m.connections g at in
     let stands : entry_at g.facts.cid.0 m ≡ Some g = stands-found m g place.place o.ordered.orderly place.stands in
-    other-becomes (λ x. x.facts.local) m (act g m).machine e g o.ordered o.is stands not_used (and_parts (is_live_at addr g.facts) g.facts.local place.passes).1
-    (others g (stands_alone g m stands))))
+    let used = and_parts (is_live_at addr g.facts) g.facts.local place.passes in
+    other-becomes (λ x. x.facts.local) m (act g m).machine e g o.ordered o.is stands not_used used.1
+    (others g (open_alone g m stands (and_parts (same_address g.facts.addr addr) (is_live g.facts) used.0).1)) in
+    grind (arith, other, used-found addr m e o, turns, stands-becomes e m o.is)
 
 promotes-becomes : (addr : Addr) (m : Machine) (e : Entry) → Ordered addr m e → Becomes (Some (turned_by_order (Promote addr) e m)) e.facts.cid.0 (promoted_at (live_entry_at addr m) addr m).machine
 promotes-becomes addr m e o =
@@ -273,8 +236,7 @@ promotes-becomes addr m e o =
     let place : FoundIn (λ x. has_id e.facts.cid.0 x.facts) m.connections e = find_some (λ x. has_id e.facts.cid.0 x.facts) m.connections e o.is in
     let live : is_live e.facts ≡ true = negotiated-live e.facts.phase (can_acquire e.facts free).negotiated in
     let found : live_entry_at addr m ≡ Some e = subst (λ a. live_entry_at a m ≡ Some e) (same_address-true e.facts.addr addr o.here) (live_here m e place.place o.ordered.orderly place.stands live) in
-    subst (λ x. Becomes (Some new) e.facts.cid.0 (promoted_at x addr m).machine) (sym found)
-    (subst (λ b. Becomes (Some new) e.facts.cid.0 (if b then acquire e m else dial addr m).machine) (sym free) (used_so (acquired e.facts) e m refl)))
+    rw (found, free) (used_so (acquired e.facts) e m refl))
     (λ other. by_option (live_entry_at addr m) (λ found. Becomes (Some e) e.facts.cid.0 (promoted_at found addr m).machine)
     (λ none. dials)
     (λ g at.
@@ -282,7 +244,8 @@ promotes-becomes addr m e o =
     let stands : entry_at g.facts.cid.0 m ≡ Some g = stands-found m g place.place o.ordered.orderly place.stands in
     cond_both (is_acquirable g.facts) (acquire g m) (dial addr m) (λ effect. Becomes (Some e) e.facts.cid.0 effect.machine)
     (λ free. other-becomes (λ x. is_acquirable x.facts) m (acquire g m).machine e g o.ordered o.is stands other free
-    (acquire-walk (alone g) (Waited (alone g)) (waits-kept (alone g)) g m refl (stands_alone g m stands))) (λ busy. dials)))
+    (acquire-walk (alone g) (Waited (alone g)) (waits-kept (alone g)) g m
+    (open_alone g m stands (and_parts (same_address g.facts.addr addr) (is_live g.facts) place.passes).1))) (λ busy. dials)))
 
 release-becomes : (e : Entry) (m : Machine) → e.facts.cid.0 < m.next_id → Becomes (Some (turned_by is_released e m)) e.facts.cid.0 (release e m).machine
 release-becomes e m given =
@@ -290,51 +253,34 @@ release-becomes e m given =
     let n : Machine = with_entry new m in
     let o : Machine = cooled e m in
     let trims : Waits nobody o (trim e.facts.cid o).machine = trim-walk nobody (Waited nobody) (waits-kept nobody) e.facts.cid o in
-    subst (Becomes (Some new) e.facts.cid.0) (sym (release-machine e m))
-    (then-becomes (Some new) e.facts.cid.0 n (trim e.facts.cid o).machine given (turned-becomes e new m refl)
-    (waits_then nobody n o (trim e.facts.cid o).machine (changed-waits nobody (peer_at e.facts.addr n) (λ p. record p { temp = Cold }) n) trims))
+    grind (arith, release-machine e m, turned-becomes e new m refl, then-becomes, waits_then, changed-waits)
 
 orders-become : (order : Order) (m : Machine) (e : Entry) → Ordered (address_of order) m e → Becomes (Some (turned_by_order order e m)) e.facts.cid.0 (carries_out order m).machine
-orders-become (Ask addr n) m e o = used-becomes addr (asks_peer n) (owing 10 n m e) m e o (λ g stands. asks_peer-walk (alone g) (Waited (alone g)) (waits-kept (alone g)) n g m refl stands)
+orders-become (Ask addr n) m e o = used-becomes addr (asks_peer n) (owing 10 n m e) m e o (λ g stands. asks_peer-walk (alone g) (Waited (alone g)) (waits-kept (alone g)) n g m stands)
     (let w : Machine = with_entry (owing 10 n m e) m in
     then-becomes (Some (owing 10 n m e)) e.facts.cid.0 w (asks_peer n e m).machine (given_id m e o.ordered o.is) (turned-becomes e (owing 10 n m e) m refl)
     (changed-waits nobody (peer_at e.facts.addr w) (λ p. record p { share_next = m.now + m.settings.sharegap }) w))
 orders-become (Forget addr) m e o = stands-becomes e m o.is
 orders-become (Promote addr) m e o = promotes-becomes addr m e o
 orders-become (Release addr) m e o = used-becomes addr release (record e { facts = released (m.now + m.settings.idle) e.facts }) m e o
-    (λ g stands. release-walk (alone g) (Waited (alone g)) (waits-kept (alone g)) g m refl stands) (release-becomes e m (given_id m e o.ordered o.is))
-orders-become (Activate addr) m e o = used-becomes addr activates (owing 2 0 m e) m e o (λ g stands. activates-walk (alone g) (Waited (alone g)) (waits-kept (alone g)) g m refl stands) (turned-becomes e (owing 2 0 m e) m refl)
-orders-become (Deactivate addr) m e o = by_option (find (is_used_at addr) m.connections)
-    (λ found. Becomes (Some e) e.facts.cid.0 (on_entry found deactivates m).machine)
-    (λ is. stands-becomes e m o.is)
-    (λ g is. then-becomes (Some e) e.facts.cid.0 m (deactivates g m).machine (given_id m e o.ordered o.is) (stands-becomes e m o.is)
-    (changed-waits nobody (peer_at g.facts.addr m) (λ p. record p { temp = Warm }) m))
+    (λ g stands. release-walk (alone g) (Waited (alone g)) (waits-kept (alone g)) g m stands) (release-becomes e m (given_id m e o.ordered o.is))
+orders-become (Activate addr) m e o = used-becomes addr activates (owing 2 0 m e) m e o (λ g stands. activates-walk (alone g) (Waited (alone g)) (waits-kept (alone g)) g m stands) (turned-becomes e (owing 2 0 m e) m refl)
+orders-become (Deactivate addr) m e o = grind arith
 
 -- ---- each act
 
 own-becomes : (o : Option Entry) (own cid : ℕ) (act : Entry → Machine → Effect) (m : Machine) (e : Entry) → (own == cid) ≡ true → entry_at cid m ≡ Some e →
     (entry_at e.facts.cid.0 m ≡ Some e → Becomes o e.facts.cid.0 (act e m).machine) → Becomes o cid (on_entry (entry_at own m) act m).machine
-own-becomes o own cid act m e same is each =
-    let mine : e.facts.cid.0 ≡ cid = eqb-true e.facts.cid.0 cid (find_some (λ x. has_id cid x.facts) m.connections e is).passes in
-    subst (λ c. Becomes o cid (on_entry (entry_at c m) act m).machine) (sym (eqb-true own cid same))
-    (subst (λ x. Becomes o cid (on_entry x act m).machine) (sym is)
-    (subst (λ c. Becomes o c (act e m).machine) mine (each (subst (λ c. entry_at c m ≡ Some e) (sym mine) is))))
+own-becomes o own cid act m e same is each = grind (arith, find_some (λ x. has_id cid x.facts) m.connections e is)
 
 -- The connection that a part is about is gone, or has turned into that one.
 pub part-becomes : (act : Act) (m : Machine) → Finds act m → (cid : ℕ) (e : Entry) → is_about act m cid ≡ true → entry_at cid m ≡ Some e → Becomes (turned act e m) cid (does act m).machine
 part-becomes (fires_one d) m found cid e own is = own-becomes (turned_by_kind d.kind e m) d.cid.0 cid (fires_as d.kind) m e own is (λ here. fires-becomes d.kind e m)
 part-becomes (carries order) m found cid e own is =
     let mine : e.facts.cid.0 ≡ cid = eqb-true e.facts.cid.0 cid (find_some (λ x. has_id cid x.facts) m.connections e is).passes in
-    subst (λ c. Becomes (Some (turned_by_order order e m)) c (carries_out order m).machine) mine
-    (orders-become order m e (record { ordered = found; is = subst (λ c. entry_at c m ≡ Some e) (sym mine) is; here = subst (λ o. is_with (address_of order) o ≡ true) is own }))
+    grind (arith, orders-become)
 part-becomes (ends_dial own_id opened) m found cid e own is = own-becomes (turned (ends_dial own_id opened) e m) own_id.0 cid (dialed opened) m e own is (λ here. dialed-becomes opened e m here)
-part-becomes (stores entry undecoded) m found cid e own is =
-    let same : entry.facts.cid.0 ≡ cid = eqb-true entry.facts.cid.0 cid own in
-    let one : Some entry ≡ Some e = sym found ∙ (ap (λ c. entry_at c m) same ∙ is) in
-    let it : entry ≡ e = cc in
-    subst (λ x. Becomes (Some (record x { undecoded = undecoded })) cid (with_entry (record entry { undecoded = undecoded }) m)) it
-    (subst (λ c. Becomes (Some (record entry { undecoded = undecoded })) c (with_entry (record entry { undecoded = undecoded }) m)) same
-    (turned-becomes entry (record entry { undecoded = undecoded }) m refl))
+part-becomes (stores entry undecoded) m found cid e own is = grind (arith, turned-becomes)
 part-becomes (handles_item own_id item) m found cid e own is =
     own-becomes (turned_by_item e.facts.phase item e m) own_id.0 cid (handled item) m e own is (λ here. handled-becomes e.facts.phase item e m (given_id m e found here) here)
 part-becomes (ends_stream own_id fault) m found cid e own is = own-becomes (Some e) own_id.0 cid (faulted fault) m e own is (λ here. faulted-becomes fault e m here)

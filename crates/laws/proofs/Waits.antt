@@ -1,13 +1,13 @@
 -- How long is waited, and what is left as it was, through each change of a connection.
-use Rattle.std.proofs.Common.{ℕ, ◌+◌, ◌<◌, ◌≤◌, ◌≡◌, ◌⊎◌, Bool, true, false, cond, not, ◌==◌, nat_lt, if◌then◌else◌, List, [], ◌∷◌, ◌++◌, map, filter, find, Option, Some, None, refl, sym, ap, ◌∙◌, subst, inl, inr, arith, eqb-true, eq-eqb, ne_eqb}
-use Rattle.laws.proofs.Words.{find-append, both_ways}
-use Rattle.laws.specs.Words.{option_map, option_or, has_id, nothing_undecoded, Peer, Kind, with_entry, without_entry, Machine, Entry, Owed, entry_at, reply_on, owing, paid}
+use Rattle.std.proofs.Common.{ℕ, ◌+◌, ◌<◌, ◌≤◌, ◌≡◌, ◌⊎◌, Bool, true, false, not, ◌==◌, nat_lt, if◌then◌else◌, List, [], ◌∷◌, ◌++◌, filter, Option, Some, None, refl, ap, subst, inl, arith, eqb-true}
+use Rattle.laws.proofs.Words.{find-append}
+use Rattle.laws.specs.Words.{nothing_undecoded, Peer, Kind, with_entry, without_entry, Machine, Entry, Owed, entry_at, reply_on, owing, paid}
 use Rattle.laws.specs.CarriedOut.{IsUnset}
 use Rattle.laws.specs.Untouched.{IsAsItWas, KeepsBytes}
-use Rattle.laws.specs.Waits.{until_paid, until_of, until_in, until_at, length_of, IsWait}
+use Rattle.laws.specs.Waits.{until_paid, until_of, until_in, length_of, IsWait}
 use Rattle.laws.proofs.Walk.{Scope}
-use Rattle.laws.proofs.Lists.{not_below}
-use Rattle.laws.proofs.Cases.{by_bool}
+pub use Rattle.laws.proofs.Finds.{replaced, gone-found}
+use Rattle.laws.proofs.Finds.{found-filter}
 
 -- ---- one wait
 
@@ -16,11 +16,7 @@ kept whole None = tt
 kept whole (Some until) = inl refl
 
 wait_then : (whole : ℕ) (a b c : Option ℕ) → IsWait whole a b → IsWait whole b c → IsWait whole a c
-wait_then whole a b None one two = tt
-wait_then whole a b (Some until) one two = elim two [
-  | inl same ↦ subst (IsWait whole a) same one
-  | inr new ↦ inr new
-]
+wait_then whole a b c one two = grind arith
 
 -- ---- what is left as it was
 
@@ -37,16 +33,7 @@ bytes_same drops None = tt
 bytes_same drops (Some e) = inl refl
 
 bytes_then : (drops : Bool) (a b c : Option Entry) → KeepsBytes drops a b → KeepsBytes drops b c → KeepsBytes drops a c
-bytes_then drops a b None one two = tt
-bytes_then drops a None (Some f) one two = elim two [ ]
-bytes_then drops None (Some g) (Some f) one two = elim one [ ]
-bytes_then drops (Some e) (Some g) (Some f) one two = elim two [
-  | inl same ↦ elim one [
-    | inl before ↦ inl (same ∙ before)
-    | inr dropped ↦ inr (dropped.0, same ∙ dropped.1)
-  ]
-  | inr dropped ↦ inr dropped
-]
+bytes_then drops a b c one two = grind arith
 
 -- ---- a part of a step
 
@@ -57,11 +44,7 @@ pub record GoesOn (scope : Scope) (m : Machine) (cid : ℕ) (before after : Opti
   pub bytes : scope.comes cid ≡ false → cid < m.next_id → KeepsBytes scope.drops before after
 
 on_same : (scope : Scope) (m : Machine) (cid : ℕ) (o : Option Entry) → GoesOn scope m cid o o
-on_same scope m cid o = record {
-  waits = λ kind. kept (m.now + length_of kind m.settings) (until_in kind o);
-  others = λ own given. was_same o;
-  bytes = λ none given. bytes_same scope.drops o;
-}
+on_same scope m cid o = grind arith
 
 -- where nothing is set
 pub record Waits (scope : Scope) (before after : Machine) : Type 0 where
@@ -70,26 +53,7 @@ pub record Waits (scope : Scope) (before after : Machine) : Type 0 where
   pub each : (cid : ℕ) → GoesOn scope before cid (entry_at cid before) (entry_at cid after)
 
 pub waits_then : (scope : Scope) (m n o : Machine) → Waits scope m n → Waits scope n o → Waits scope m o
-waits_then scope m n o one two = record {
-  unset = record {
-    now = two.unset.now ∙ one.unset.now;
-    settings = two.unset.settings ∙ one.unset.settings;
-    targets = two.unset.targets ∙ one.unset.targets;
-    big_targets = two.unset.big_targets ∙ one.unset.big_targets;
-    groups = two.unset.groups ∙ one.unset.groups;
-    roots = two.unset.roots ∙ one.unset.roots;
-  };
-  next = omega (arith, one.next, two.next);
-  each = λ cid. record {
-    waits = λ kind. wait_then (m.now + length_of kind m.settings) (until_at kind cid m) (until_at kind cid n) (until_at kind cid o) ((one.each cid).waits kind)
-        (subst (λ s. IsWait (m.now + length_of kind s) (until_at kind cid n) (until_at kind cid o)) one.unset.settings
-        (subst (λ t. IsWait (t + length_of kind n.settings) (until_at kind cid n) (until_at kind cid o)) one.unset.now ((two.each cid).waits kind)));
-    others = λ own given. was_then (entry_at cid m) (entry_at cid n) (entry_at cid o) ((one.each cid).others own given)
-        ((two.each cid).others own (omega (arith, given, one.next)));
-    bytes = λ none given. bytes_then scope.drops (entry_at cid m) (entry_at cid n) (entry_at cid o) ((one.each cid).bytes none given)
-        ((two.each cid).bytes none (omega (arith, given, one.next)));
-  };
-}
+waits_then scope m n o one two = grind arith
 
 -- connections and peers may be others
 unchanged : (es : List Entry) (ps : List Peer) (next : ℕ) (m : Machine) → IsUnset m (record m { connections = es; peers = ps; next_id = next })
@@ -104,30 +68,6 @@ waits_nothing scope m = waits_peers scope m.peers m
 
 -- ---- a connection that comes, goes or turns
 
-either_way : {X : Type 0} (o : Option X) (b : Bool) → o ≡ (if b then o else o)
-either_way o true = refl
-either_way o false = refl
-
--- what is found once one that has its id takes the place of each
-pub replaced : (c : ℕ) (new : Entry) (es : List Entry) → find (λ e. has_id c e.facts) (map (λ e. if has_id new.facts.cid.0 e.facts then new else e) es)
-    ≡ (if has_id c new.facts then option_map (λ e. new) (find (λ e. has_id c e.facts) es) else find (λ e. has_id c e.facts) es)
-replaced c new [] = either_way {X = Entry} None (has_id c new.facts)
-replaced c new (e ∷ es) =
-    let later : Option Entry = find (λ x. has_id c x.facts) (map (λ x. if has_id new.facts.cid.0 x.facts then new else x) es) in
-    let was : Option Entry = find (λ x. has_id c x.facts) es in
-    by_bool (has_id new.facts.cid.0 e.facts)
-    (λ a. cond (has_id c (if a then new else e).facts) (Some (if a then new else e)) later
-    ≡ (if has_id c new.facts then option_map (λ x. new) (cond (has_id c e.facts) (Some e) was) else cond (has_id c e.facts) (Some e) was))
-    (λ own.
-    subst (λ h. cond (has_id c new.facts) (Some new) later ≡ (if has_id c new.facts then option_map (λ x. new) (cond h (Some e) was) else cond h (Some e) was))
-    (sym (ap (λ n. n == c) (eqb-true e.facts.cid.0 new.facts.cid.0 own)))
-    (by_bool (has_id c new.facts) (λ b. later ≡ (if b then option_map (λ x. new) was else was) →
-    cond b (Some new) later ≡ (if b then option_map (λ x. new) (cond b (Some e) was) else cond b (Some e) was)) (λ is rest. refl) (λ is rest. rest) (replaced c new es)))
-    (λ apart. by_bool (has_id c new.facts) (λ b. later ≡ (if b then option_map (λ x. new) was else was) →
-    cond (has_id c e.facts) (Some e) later ≡ (if b then option_map (λ x. new) (cond (has_id c e.facts) (Some e) was) else cond (has_id c e.facts) (Some e) was))
-    (λ is rest. rw (ap (λ n. e.facts.cid.0 == n) (sym (eqb-true new.facts.cid.0 c is)) ∙ apart) rest)
-    (λ is rest. ap (λ o. cond (has_id c e.facts) (Some e) o) rest) (replaced c new es))
-
 -- what one turns into waits as it did, or for a whole length
 abbrev pub TurnsRight : Machine → Entry → Entry → Type 0
 TurnsRight m e new = (kind : Kind) → IsWait (m.now + length_of kind m.settings) (until_of kind e) (until_of kind new)
@@ -141,122 +81,40 @@ pub waits_turned : (scope : Scope) (m : Machine) (e new : Entry) → entry_at e.
 waits_turned scope m e new found mine same right stay = record {
   unset = unchanged (with_entry new m).connections m.peers m.next_id m;
   next = omega arith;
-  each = λ cid. subst (GoesOn scope m cid (entry_at cid m)) (sym (replaced cid new m.connections)) (by_bool (has_id cid new.facts)
-      (λ b. GoesOn scope m cid (entry_at cid m) (if b then option_map (λ x. new) (entry_at cid m) else entry_at cid m))
-      (λ is. by_id cid (ap (λ c. c.0) (sym same) ∙ eqb-true new.facts.cid.0 cid is)) (λ is. on_same scope m cid (entry_at cid m)));
+  each = λ cid. grind (arith, replaced cid new m.connections, found, mine, same, right, stay, on_same scope m cid (entry_at cid m));
 }
-  where
-    by_id : (cid : ℕ) → e.facts.cid.0 ≡ cid → GoesOn scope m cid (entry_at cid m) (option_map (λ x. new) (entry_at cid m))
-    by_id cid is = subst (λ c. GoesOn scope m c (entry_at c m) (option_map (λ x. new) (entry_at c m))) is (rw found (record {
-      waits = right;
-      others = λ own given. absurd (both_ways (scope.own e.facts.cid.0) own mine);
-      bytes = λ none given. stay none;
-    }))
-
--- where all that pass one test pass another, or none does
-found-filter : {X : Type 0} (q r : X → Bool) (b : Bool) → ((x : X) → q x ≡ true → r x ≡ b) → (xs : List X) → find q (filter r xs) ≡ (if b then find q xs else None)
-found-filter {X} q r b each [] = either_way {X = X} None b
-found-filter {X} q r b each (x ∷ xs) = by_tests (q x) refl (r x) refl b (each x) (found-filter q r b each xs)
-  where
-    by_tests : (c : Bool) → q x ≡ c → (d : Bool) → r x ≡ d → (e : Bool) → (q x ≡ true → r x ≡ e) → find q (filter r xs) ≡ (if e then find q xs else None) →
-        find q (cond d (x ∷ filter r xs) (filter r xs)) ≡ (if e then cond c (Some x) (find q xs) else None)
-    by_tests true passes true keeps true same rest = ap (λ y. cond y (Some x) (find q (filter r xs))) passes
-    by_tests true passes true keeps false same rest = absurd (let never : true ≡ false = sym keeps ∙ same passes in cc)
-    by_tests true passes false keeps true same rest = absurd (let never : false ≡ true = sym keeps ∙ same passes in cc)
-    by_tests true passes false keeps false same rest = rest
-    by_tests false fails true keeps e same rest = ap (λ y. cond y (Some x) (find q (filter r xs))) fails ∙ rest
-    by_tests false fails false keeps e same rest = rest
-
--- one goes
-pub gone-found : (c cid : ℕ) (es : List Entry) → find (λ e. has_id c e.facts) (filter (λ e. not (has_id cid e.facts)) es)
-    ≡ (if cid == c then None else find (λ e. has_id c e.facts) es)
-gone-found c cid es =
-    found-filter (λ e. has_id c e.facts) (λ e. not (has_id cid e.facts)) (not (cid == c))
-    (λ e own. ap not (ap (λ n. n == cid) (eqb-true e.facts.cid.0 c own) ∙ same_turned)) es
-    ∙ by_bool (cid == c) (λ b. (if not b then find (λ e. has_id c e.facts) es else None) ≡ (if b then None else find (λ e. has_id c e.facts) es)) (λ is. refl) (λ is. refl)
-  where
-    same_turned : (c == cid) ≡ (cid == c)
-    same_turned = by_bool (cid == c) (λ b. (c == cid) ≡ b) (λ is. eq-eqb c cid (sym (eqb-true cid c is)))
-        (λ other. ne_eqb c cid (λ same. both_ways (cid == c) other (eq-eqb cid c (sym same))))
 
 pub waits_gone : (scope : Scope) (m : Machine) (cid : ℕ) → Waits scope m (without_entry cid m)
 waits_gone scope m cid = record {
   unset = unchanged (without_entry cid m).connections m.peers m.next_id m;
   next = omega arith;
-  each = λ c. subst (GoesOn scope m c (entry_at c m)) (sym (gone-found c cid m.connections)) (by_bool (cid == c)
-      (λ b. GoesOn scope m c (entry_at c m) (if b then None else entry_at c m))
-      (λ is. record { waits = λ kind. tt; others = λ own given. tt; bytes = λ none given. tt }) (λ is. on_same scope m c (entry_at c m)));
+  each = λ c. grind (arith, gone-found c cid m.connections, on_same scope m c (entry_at c m));
 }
 
 pub waits_come : (scope : Scope) (m : Machine) (new : Entry) → new.facts.cid.0 ≡ m.next_id →
     ((kind : Kind) → IsWait (m.now + length_of kind m.settings) None (until_of kind new)) →
     Waits scope m (record m { connections = m.connections ++ new ∷ []; next_id = m.next_id + 1 })
-waits_come scope m new id right = record {
-  unset = unchanged (m.connections ++ new ∷ []) m.peers (m.next_id + 1) m;
-  next = omega arith;
-  each = λ c. subst (GoesOn scope m c (entry_at c m)) (sym (find-append (λ e. has_id c e.facts) m.connections (new ∷ []))) (by_found c (entry_at c m) (has_id c new.facts) refl);
-}
-  where
-    -- an id that was given before finds what it did
-    not_given : (c : ℕ) → has_id c new.facts ≡ true → c < m.next_id → ⊥
-    not_given c is given = let same = eqb-true new.facts.cid.0 c is in omega (arith, same, id, given)
-
-    by_found : (c : ℕ) (o : Option Entry) (b : Bool) → has_id c new.facts ≡ b → GoesOn scope m c o (option_or o (cond b (Some new) None))
-    by_found c (Some e) b is = on_same scope m c (Some e)
-    by_found c None false is = on_same scope m c None
-    by_found c None true is = record { waits = right; others = λ own given. absurd (not_given c is given); bytes = λ none given. absurd (not_given c is given) }
+waits_come scope m new id right = grind (arith, unchanged, find-append, on_same)
 
 -- ---- what is owed
 
 -- a reply comes to be owed
 pub owing-until : (p protocol asked : ℕ) (m : Machine) (e : Entry) →
     until_paid (reply_on p (owing protocol asked m e)) ≡ (if protocol == p then Some (m.now + m.settings.reply) else until_paid (reply_on p e))
-owing-until p protocol asked m e = ap until_paid found ∙ by_tests (protocol == p) refl (nat_lt p protocol) refl (nat_lt protocol p) refl was
-  where
-    new : Owed
-    new = record { protocol = protocol; until = m.now + m.settings.reply; asked = asked }
-
-    was : Option Owed
-    was = reply_on p e
-
-    found : reply_on p (owing protocol asked m e)
-        ≡ option_or (if nat_lt p protocol then was else None) (cond (protocol == p) (Some new) (if nat_lt protocol p then was else None))
-    found =
-        find-append (λ o. o.protocol == p) (filter (λ o. nat_lt o.protocol protocol) e.owed) (new ∷ filter (λ o. nat_lt protocol o.protocol) e.owed)
-        ∙ (ap (λ o. option_or o (cond (protocol == p) (Some new) (find (λ x. x.protocol == p) (filter (λ x. nat_lt protocol x.protocol) e.owed))))
-        (found-filter (λ o. o.protocol == p) (λ o. nat_lt o.protocol protocol) (nat_lt p protocol) (λ o is. ap (λ n. nat_lt n protocol) (eqb-true o.protocol p is)) e.owed)
-        ∙ ap (λ o. option_or (if nat_lt p protocol then was else None) (cond (protocol == p) (Some new) o))
-        (found-filter (λ o. o.protocol == p) (λ o. nat_lt protocol o.protocol) (nat_lt protocol p) (λ o is. ap (λ n. nat_lt protocol n) (eqb-true o.protocol p is)) e.owed))
-
-    by_tests : (b : Bool) → (protocol == p) ≡ b → (a : Bool) → nat_lt p protocol ≡ a → (c : Bool) → nat_lt protocol p ≡ c → (o : Option Owed) →
-        until_paid (option_or (if a then o else None) (cond b (Some new) (if c then o else None))) ≡ (if b then Some (m.now + m.settings.reply) else until_paid o)
-    by_tests true same true lower c upper o =
-        let never : true ≡ false = sym lower ∙ (ap (nat_lt p) (eqb-true protocol p same) ∙ not_below p) in absurd cc
-    by_tests false other true lower true upper None = refl
-    by_tests false other true lower false upper None = refl
-    by_tests false other false lower false upper o =
-        let never : (protocol == p) ≡ true = grind (arith, lower, upper) in absurd (let wrong : true ≡ false = sym never ∙ other in cc)
-    by_tests b is a lower c upper o = refl
+owing-until p protocol asked m e =
+    let new : Owed = record { protocol = protocol; until = m.now + m.settings.reply; asked = asked } in
+    let before = found-filter (λ o. o.protocol == p) (λ o. nat_lt o.protocol protocol) (nat_lt p protocol) (λ o is. ap (λ n. nat_lt n protocol) (eqb-true o.protocol p is)) e.owed in
+    let behind = found-filter (λ o. o.protocol == p) (λ o. nat_lt protocol o.protocol) (nat_lt protocol p) (λ o is. ap (λ n. nat_lt protocol n) (eqb-true o.protocol p is)) e.owed in
+    grind (arith, find-append (λ o. o.protocol == p) (filter (λ o. nat_lt o.protocol protocol) e.owed) (new ∷ filter (λ o. nat_lt protocol o.protocol) e.owed), before, behind)
 
 pub owing-right : (p protocol asked : ℕ) (m : Machine) (e : Entry) →
     IsWait (m.now + m.settings.reply) (until_paid (reply_on p e)) (until_paid (reply_on p (owing protocol asked m e)))
-owing-right p protocol asked m e = subst (IsWait (m.now + m.settings.reply) (until_paid (reply_on p e))) (sym (owing-until p protocol asked m e)) (by_bool (protocol == p)
-    (λ b. IsWait (m.now + m.settings.reply) (until_paid (reply_on p e)) (if b then Some (m.now + m.settings.reply) else until_paid (reply_on p e)))
-    (λ is. inr refl) (λ is. kept (m.now + m.settings.reply) (until_paid (reply_on p e))))
+owing-right p protocol asked m e = grind (arith, owing-until, kept)
 
 -- it is paid
 pub paid-until : (p protocol : ℕ) (e : Entry) → until_paid (reply_on p (paid protocol e)) ≡ (if protocol == p then None else until_paid (reply_on p e))
 paid-until p protocol e =
-    ap until_paid (found-filter (λ o. o.protocol == p) (λ o. not (o.protocol == protocol)) (not (p == protocol))
-    (λ o is. ap (λ n. not (n == protocol)) (eqb-true o.protocol p is)) e.owed)
-    ∙ by_tests (protocol == p) (p == protocol) (grind arith)
-  where
-    by_tests : (b c : Bool) → c ≡ b → until_paid (if not c then reply_on p e else None) ≡ (if b then None else until_paid (reply_on p e))
-    by_tests true true same = refl
-    by_tests false false same = refl
-    by_tests b c same = absurd cc
+    grind (arith, found-filter (λ o. o.protocol == p) (λ o. not (o.protocol == protocol)) (not (p == protocol)) (λ o is. ap (λ n. not (n == protocol)) (eqb-true o.protocol p is)) e.owed)
 
 pub paid-right : (p protocol : ℕ) (whole : ℕ) (e : Entry) → IsWait whole (until_paid (reply_on p e)) (until_paid (reply_on p (paid protocol e)))
-paid-right p protocol whole e = subst (IsWait whole (until_paid (reply_on p e))) (sym (paid-until p protocol e)) (by_bool (protocol == p)
-    (λ b. IsWait whole (until_paid (reply_on p e)) (if b then None else until_paid (reply_on p e)))
-    (λ is. tt) (λ is. kept whole (until_paid (reply_on p e))))
+paid-right p protocol whole e = grind (arith, paid-until, kept)

@@ -1,18 +1,18 @@
 -- How long is waited, what is set, and what is left as it was, in each part of an event.
-use Rattle.std.proofs.Common.{ℕ, ◌+◌, ◌%◌, ◌≡◌, ◌⊎◌, false, ◌||◌, find, Option, Some, None, refl, sym, ap, subst, inl, inr}
-use Rattle.laws.proofs.Words.{cond_both, both_ways}
-use Rattle.laws.specs.Words.{dialing, accepted, agreed_inbound, agreed_outbound, acquired, released, awakened, idled, expired, has_id, is_for_remote, some_runs, with_responder, failed_peer, Undecoded, CloseCause, Overwritten, Addr, Facts, Off, ForRemote, ForLocal, Negotiated, Peer, Kind, entry_of, entered, new_peer, without_entry, is_missed, lost, lost_by, ending, vanishes, closing_entry, dial, Effect, nothing_more, admitted, Machine, Entry, fresh_entry, entry_at, peer_at, turns_at, peer_fails, peer_goes, owing, paid, Order}
+use Rattle.std.proofs.Common.{ℕ, ◌+◌, ◌≡◌, ◌⊎◌, false, Option, Some, None, refl, sym, subst, inl, inr, arith}
+use Rattle.laws.proofs.Words.{both_ways}
+use Rattle.laws.specs.Words.{dialing, accepted, agreed_inbound, awakened, expired, Undecoded, CloseCause, Overwritten, Addr, Facts, Negotiated, Peer, entry_of, entered, new_peer, without_entry, lost, lost_by, ending, vanishes, closing_entry, dial, Effect, admitted, Machine, Entry, fresh_entry, peer_at, turns_at, peer_goes, owing, paid, Order}
 use Rattle.laws.specs.Words.kind
-use Rattle.laws.specs.Acts.{Act, shows, asks_for_roots, carries, sets_targets, sets_big_targets, sets_groups, sets_roots, does}
+use Rattle.laws.specs.Acts.{Act, carries, does}
 use Rattle.laws.specs.CarriedOut.{IsUnset, IsSet}
 use Rattle.laws.specs.Parts.{IsNext}
 use Rattle.laws.specs.Steady.{IsOrdered}
-use Rattle.laws.specs.Untouched.{may_close, IsAsItWas, KeepsBytes, LeavesRest}
-use Rattle.laws.specs.Waits.{until_of, until_in, until_at, until_unused, length_of, IsWait, WaitsRight}
+use Rattle.laws.specs.Untouched.{LeavesRest}
+use Rattle.laws.specs.Waits.{until_of, until_unused, length_of, IsWait, WaitsRight}
 use Rattle.laws.proofs.Keeping.{note-machine}
 use Rattle.laws.proofs.RootsAsked.{roots-set}
 use Rattle.laws.proofs.Waits.{Waits, TurnsRight, kept, waits_then, waits_peers, waits_nothing, waits_turned, waits_gone, waits_come, owing-right, paid-right, was_same, bytes_same}
-use Rattle.laws.proofs.Walk.{forgets_own, Scope, Turn, opens, agrees_inbound, agrees_outbound, is_acquired, is_released, awakes, idles, expires, owes, is_paid, turned_by, turned-cid, turned-undecoded, Kept, IsChange, Finds, scope_of, orderly-finds, orders-walk, walk}
+use Rattle.laws.proofs.Walk.{allows-order, Scope, Turn, opens, agrees_inbound, agrees_outbound, is_acquired, is_released, awakes, idles, expires, owes, is_paid, turned_by, turned-cid, turned-undecoded, Kept, IsChange, Finds, scope_of, orderly-finds, orders-walk, walk}
 
 -- ---- whatever a connection turns into waits as it did, or for a whole length
 
@@ -22,25 +22,16 @@ same-right m e kind = kept (m.now + length_of kind m.settings) (until_of kind e)
 -- the phase stays, and what is owed
 graced-right : (m : Machine) (e : Entry) (f : Facts) → f.phase ≡ e.facts.phase → IsWait (m.now + m.settings.idle) (until_unused e.facts.grace) (until_unused f.grace) →
     TurnsRight m e (record e { facts = f })
-graced-right m e f phase grace kind.Handshake = subst (λ p. IsWait (m.now + m.settings.handshake) (until_of kind.Handshake e) (until_of kind.Handshake (record e { facts = record f { phase = p } }))) (sym phase) (kept (m.now + m.settings.handshake) (until_of kind.Handshake e))
-graced-right m e f phase grace kind.Grace = grace
-graced-right m e f phase grace kind.TimeWait = subst (λ p. IsWait (m.now + m.settings.timewait) (until_of kind.TimeWait e) (until_of kind.TimeWait (record e { facts = record f { phase = p } }))) (sym phase) (kept (m.now + m.settings.timewait) (until_of kind.TimeWait e))
-graced-right m e f phase grace other = kept (m.now + m.settings.reply) (until_of other e)
+graced-right m e f phase grace sort = grind (arith, kept)
 
 -- nothing of it waits but what does by its phase
 negotiated-right : (m : Machine) (e : Entry) (f : Facts) → f.phase ≡ Negotiated → IsWait (m.now + m.settings.idle) (until_unused e.facts.grace) (until_unused f.grace) →
     TurnsRight m e (record e { facts = f })
-negotiated-right m e f phase grace kind.Handshake = subst (λ p. IsWait (m.now + m.settings.handshake) (until_of kind.Handshake e) (until_of kind.Handshake (record e { facts = record f { phase = p } }))) (sym phase) tt
-negotiated-right m e f phase grace kind.Grace = grace
-negotiated-right m e f phase grace kind.TimeWait = subst (λ p. IsWait (m.now + m.settings.timewait) (until_of kind.TimeWait e) (until_of kind.TimeWait (record e { facts = record f { phase = p } }))) (sym phase) tt
-negotiated-right m e f phase grace other = kept (m.now + m.settings.reply) (until_of other e)
+negotiated-right m e f phase grace sort = grind (arith, kept)
 
 -- a reply comes to be owed besides
 owing_too-right : (protocol asked : ℕ) (m : Machine) (e : Entry) (f : Facts) → TurnsRight m e (record e { facts = f }) → TurnsRight m e (owing protocol asked m (record e { facts = f }))
-owing_too-right protocol asked m e f right kind.Reply2 = owing-right 2 protocol asked m (record e { facts = f })
-owing_too-right protocol asked m e f right kind.Reply8 = owing-right 8 protocol asked m (record e { facts = f })
-owing_too-right protocol asked m e f right kind.Reply10 = owing-right 10 protocol asked m (record e { facts = f })
-owing_too-right protocol asked m e f right other = right other
+owing_too-right protocol asked m e f right sort = grind (arith, owing-right)
 
 paid_off-right : (protocol : ℕ) (m : Machine) (e : Entry) → TurnsRight m e (paid protocol e)
 paid_off-right protocol m e kind.Reply2 = paid-right 2 protocol (m.now + m.settings.reply) e
@@ -49,16 +40,10 @@ paid_off-right protocol m e kind.Reply10 = paid-right 10 protocol (m.now + m.set
 paid_off-right protocol m e other = same-right m e other
 
 opens-right : (m : Machine) (e : Entry) → TurnsRight m e (turned_by opens e m)
-opens-right m e kind.Handshake = inr refl
-opens-right m e kind.Grace = kept (m.now + m.settings.idle) (until_of kind.Grace e)
-opens-right m e kind.TimeWait = tt
-opens-right m e other = kept (m.now + m.settings.reply) (until_of other e)
+opens-right m e sort = grind (arith, kept)
 
 closing-right : (m : Machine) (e : Entry) → TurnsRight m e (closing_entry m e)
-closing-right m e kind.Handshake = tt
-closing-right m e kind.Grace = tt
-closing-right m e kind.TimeWait = inr refl
-closing-right m e other = kept (m.now + m.settings.reply) (until_of other e)
+closing-right m e sort = grind (arith, kept)
 
 decodes-right : (m : Machine) (e : Entry) (undecoded : Undecoded) → TurnsRight m e (record e { undecoded = undecoded })
 decodes-right m e undecoded kind.Handshake = same-right m e kind.Handshake
@@ -67,20 +52,11 @@ decodes-right m e undecoded other = same-right m e other
 turned-right : (turn : Turn) (e : Entry) (m : Machine) → TurnsRight m e (turned_by turn e m)
 turned-right opens e m = opens-right m e
 turned-right (agrees_inbound agreed) e m = negotiated-right m e (agreed_inbound agreed (m.now + m.settings.idle) e.facts) refl (inr refl)
-turned-right (agrees_outbound agreed) e m =
-    owing_too-right 8 (e.facts.cid.0 % 65536) m e (agreed_outbound agreed (m.now + m.settings.idle) e.facts)
-    (negotiated-right m e (agreed_outbound agreed (m.now + m.settings.idle) e.facts) refl
-    (cond_both agreed.initiator_only Off (ForRemote (m.now + m.settings.idle)) (λ g. IsWait (m.now + m.settings.idle) (until_unused e.facts.grace) (until_unused g))
-    (λ alone. tt) (λ both. inr refl)))
-turned-right is_acquired e m =
-    owing_too-right 8 (e.facts.cid.0 % 65536) m e (acquired e.facts) (graced-right m e (acquired e.facts) refl (kept (m.now + m.settings.idle) (until_unused e.facts.grace)))
-turned-right is_released e m = graced-right m e (released (m.now + m.settings.idle) e.facts) refl
-    (cond_both (some_runs e.facts.running || is_for_remote e.facts.grace) e.facts.grace (ForLocal (m.now + m.settings.idle))
-    (λ g. IsWait (m.now + m.settings.idle) (until_unused e.facts.grace) (until_unused g)) (λ stays. kept (m.now + m.settings.idle) (until_unused e.facts.grace)) (λ other. inr refl))
+turned-right (agrees_outbound agreed) e m = grind (arith, owing_too-right, negotiated-right)
+turned-right is_acquired e m = grind (arith, owing_too-right, graced-right, kept)
+turned-right is_released e m = grind arith
 turned-right (awakes protocol) e m = graced-right m e (awakened protocol e.facts) refl tt
-turned-right (idles protocol) e m = graced-right m e (idled protocol (m.now + m.settings.idle) e.facts) refl
-    (cond_both (some_runs (with_responder protocol false e.facts.running)) e.facts.grace (ForRemote (m.now + m.settings.idle))
-    (λ g. IsWait (m.now + m.settings.idle) (until_unused e.facts.grace) (until_unused g)) (λ runs. kept (m.now + m.settings.idle) (until_unused e.facts.grace)) (λ other. inr refl))
+turned-right (idles protocol) e m = grind arith
 turned-right expires e m = graced-right m e (expired e.facts) refl tt
 turned-right (owes protocol asked) e m = owing_too-right protocol asked m e e.facts (same-right m e)
 turned-right (is_paid protocol) e m = paid_off-right protocol m e
@@ -96,8 +72,7 @@ module _ (scope : Scope) where
   changed-waits (Some p) change m = waits_peers scope (turns_at (Some p) change m).machine.peers m
 
   lost-waits : (f : Facts) (m : Machine) → Waited m (lost f m)
-  lost-waits f m = cond_both (is_missed f) (peer_fails f.addr m) (nothing_more m) (Waited m)
-      (λ missed. changed-waits (peer_at f.addr m) (failed_peer m.now m.settings.backoff) m) (λ other. waits_nothing scope m)
+  lost-waits f m = grind (arith, changed-waits, waits_nothing)
 
   lost_by-waits : (cause : CloseCause) (f : Facts) (m : Machine) → Waited m (lost_by cause f m)
   lost_by-waits Overwritten f m = waits_nothing scope m
@@ -108,18 +83,10 @@ module _ (scope : Scope) where
   goes-waits e m n follows = waits_then scope m (without_entry e.facts.cid.0 m) n (waits_gone scope m e.facts.cid.0) follows
 
   pub dial-waits : (addr : Addr) (m : Machine) → Waited m (dial addr m)
-  dial-waits addr m = waits_come scope m (fresh_entry (dialing m.next_id addr)) refl nothing
-    where
-      nothing : (kind : Kind) → IsWait (m.now + length_of kind m.settings) None (until_of kind (fresh_entry (dialing m.next_id addr)))
-      nothing kind.Handshake = tt
-      nothing other = tt
+  dial-waits addr m = waits_come scope m (fresh_entry (dialing m.next_id addr)) refl (λ kind. grind arith)
 
   admitted-waits : (addr : Addr) (m : Machine) → Waited m (admitted addr m)
-  admitted-waits addr m = waits_come scope m (fresh_entry (accepted m.next_id addr (m.now + m.settings.handshake))) refl greeting
-    where
-      greeting : (kind : Kind) → IsWait (m.now + length_of kind m.settings) None (until_of kind (fresh_entry (accepted m.next_id addr (m.now + m.settings.handshake))))
-      greeting kind.Handshake = inr refl
-      greeting other = tt
+  admitted-waits addr m = waits_come scope m (fresh_entry (accepted m.next_id addr (m.now + m.settings.handshake))) refl (λ kind. grind arith)
 
   pub waits-kept : Kept scope Waited
   waits-kept = record {
@@ -149,13 +116,7 @@ module _ (scope : Scope) where
 
 -- either no connection changes, or nothing is set
 pub sets_or_changes : (act : Act) (m : Machine) → ((does act m).machine.connections ≡ m.connections) ⊎ IsChange act
-sets_or_changes (shows t) m = inl refl
-sets_or_changes asks_for_roots m = inl (ap (λ n. n.connections) (roots-set m))
-sets_or_changes (sets_targets targets) m = inl refl
-sets_or_changes (sets_big_targets targets) m = inl refl
-sets_or_changes (sets_groups groups) m = inl refl
-sets_or_changes (sets_roots roots) m = inl refl
-sets_or_changes other m = inr tt
+sets_or_changes act m = grind (arith, roots-set m)
 
 act-waits : (act : Act) (m : Machine) → IsChange act → IsNext act m → Finds act m → Waits (scope_of act m) m (does act m).machine
 act-waits act m change next found = walk act m (Waited (scope_of act m)) change next found (waits-kept (scope_of act m))
@@ -163,41 +124,22 @@ act-waits act m change next found = walk act m (Waited (scope_of act m)) change 
 -- ---- what follows
 
 right : (scope : Scope) (m n : Machine) → Waits scope m n → WaitsRight m n
-right scope m n h kind cid =
-    subst (λ s. IsWait (n.now + length_of kind s) (until_at kind cid m) (until_at kind cid n)) (sym h.unset.settings)
-    (subst (λ t. IsWait (t + length_of kind m.settings) (until_at kind cid m) (until_at kind cid n)) (sym h.unset.now) ((h.each cid).waits kind))
+right scope m n h kind cid = grind arith
 
 pub waits-right : (act : Act) (m : Machine) → IsNext act m → Finds act m → WaitsRight m (does act m).machine
-waits-right act m next found = elim (sets_or_changes act m) [
-  | inl same ↦ let n : Machine = (does act m).machine in λ kind cid.
-      subst (λ es. IsWait (n.now + length_of kind n.settings) (until_at kind cid m) (until_in kind (find (λ e. has_id cid e.facts) es))) (sym same)
-      (kept (n.now + length_of kind n.settings) (until_at kind cid m))
-  | inr change ↦ right (scope_of act m) m (does act m).machine (act-waits act m change next found)
-]
+waits-right act m next found = grind (arith, sets_or_changes act m, scope_of act m, kept, right, act-waits)
 
 pub leaves-rest : (act : Act) (m : Machine) → IsNext act m → Finds act m → LeavesRest act m (does act m).machine
-leaves-rest act m next found = elim (sets_or_changes act m) [
-  | inl same ↦ record {
-    others = λ cid own given. subst (λ es. IsAsItWas (entry_at cid m) (find (λ e. has_id cid e.facts) es)) (sym same) (was_same (entry_at cid m));
-    bytes = λ cid none given. subst (λ es. KeepsBytes (may_close act) (entry_at cid m) (find (λ e. has_id cid e.facts) es)) (sym same) (bytes_same (may_close act) (entry_at cid m));
-  }
-  | inr change ↦ let h = act-waits act m change next found in record { others = λ cid. (h.each cid).others; bytes = λ cid. (h.each cid).bytes }
-]
+leaves-rest act m next found = grind (arith, sets_or_changes, was_same, bytes_same, act-waits)
 
 -- nothing is set by an order
 pub order-waits : (order : Order) (m : Machine) → IsOrdered m → Waits (scope_of (carries order) m) m (does (carries order) m).machine
 order-waits order m h =
     let scope : Scope = scope_of (carries order) m in
-    orders-walk scope (Waited scope) (waits-kept scope) order m refl refl (forgets_own order) (orderly-finds order m h.orderly)
+    orders-walk scope (Waited scope) (waits-kept scope) order m refl (allows-order order m) (orderly-finds order m h.orderly)
 
 pub order-unset : (order : Order) (m : Machine) → IsOrdered m → IsUnset m (does (carries order) m).machine
 order-unset order m h = (order-waits order m h).unset
 
 pub is-set : (act : Act) (m : Machine) → IsNext act m → Finds act m → IsSet act m (does act m).machine
-is-set (shows t) m next found = refl
-is-set asks_for_roots m next found = roots-set m
-is-set (sets_targets targets) m next found = refl
-is-set (sets_big_targets targets) m next found = refl
-is-set (sets_groups groups) m next found = refl
-is-set (sets_roots roots) m next found = refl
-is-set other m next found = (act-waits other m tt next found).unset
+is-set act m next found = grind (arith, roots-set, act-waits)

@@ -1,8 +1,10 @@
 -- What each part of an event is made of: a connection turns, comes or goes, a peer does, and something is sent. A relation between
 -- what stood before and what came of it that holds of each of these, and of one after the other, holds of the part.
-use Rattle.std.proofs.Common.{ℕ, ◌+◌, ◌%◌, ◌≡◌, Bool, true, false, ◌==◌, if◌then◌else◌, List, [], ◌∷◌, find, Option, Some, None, refl, sym, ap, ◌∙◌, subst, eqb-true, eq-eqb}
+use Rattle.laws.proofs.ToldMoves.{turns_at-connections}
+use Rattle.laws.proofs.Finds.{replaced, gone-found}
+use Rattle.std.proofs.Common.{ℕ, ◌+◌, ◌%◌, ◌≡◌, Bool, true, false, ◌==◌, List, [], ◌∷◌, find, Option, Some, None, refl, sym, ap, ◌∙◌, subst, eqb-true, eq-eqb, arith}
 use Rattle.laws.proofs.Words.{cond_both, and_parts}
-use Rattle.laws.specs.Words.{connected, agreed_inbound, agreed_outbound, acquired, released, awakened, idled, expired, has_id, is_acquirable, is_dialing, is_live, is_live_at, live_phase, runs, agreed_sharing, Order, Ask, Forget, Promote, Release, Activate, Deactivate, verdict_of, answer_of, proposal_of, Verdict, kind_of, frame_of, CutFault, Item, same_address, Undecoded, Close, Send, Away, CloseCause, Unused, Pruned, Overwritten, Refused, Query, Fault, Protocol, HandshakeWait, ReplyWait, Addr, Agreed, Cid, Facts, Phase, Greeting, Negotiated, Closing, Peer, Cold, Warm, Hot, Kind, Reply, Seen, written_alive, written_request, Done, with_entry, entry_turns, entry_goes, ending, vanishes, closing_entry, is_used, acquire, trim, says_done, release, awake, dial, dial_opens, dial_fails, fires_as, Effect, Happened, promoted, activated, shared, unused, gone, nothing_more, tells, then_do, as_move, on_entry, on_connection, turned_away, admitted, peer_connects, closes, dialed, promoted_at, is_used_at, on_used, asks_peer, activates, deactivates, carries_out, role_of, sends_answer, judged, greets, Machine, Entry, entry_at, live_entry_at, own_info, peer_changes, peer_succeeds, peer_becomes, peer_was_asked, peer_comes, peer_goes, is_wanted_big, comes_big, owing, paid, sends_as_initiator, find_intersect, chain_sync_done, peer_sharing_done, handled_in, handled, faulted, replies, stops_if, serves, begins, brings, talks, peer_is_ordinary}
+use Rattle.laws.specs.Words.{connected, agreed_inbound, agreed_outbound, acquired, released, awakened, idled, expired, has_id, is_acquirable, is_dialing, is_live, is_live_at, runs, agreed_sharing, Order, Forget, Promote, verdict_of, answer_of, proposal_of, Verdict, kind_of, frame_of, CutFault, Item, same_address, Undecoded, Close, Send, Away, CloseCause, Unused, Pruned, Overwritten, Refused, Query, Fault, Protocol, HandshakeWait, ReplyWait, Addr, Agreed, Cid, Facts, Phase, Greeting, Negotiated, Peer, Cold, Warm, Hot, Kind, Reply, Seen, written_alive, written_request, Done, with_entry, entry_turns, entry_goes, ending, vanishes, closing_entry, is_used, acquire, trim, says_done, release, awake, dial, dial_opens, fires_as, Effect, Happened, shared, unused, gone, nothing_more, tells, then_do, as_move, on_entry, on_connection, turned_away, admitted, peer_connects, dialed, promoted_at, is_used_at, on_used, asks_peer, activates, deactivates, carries_out, role_of, sends_answer, judged, greets, Machine, Entry, entry_at, live_entry_at, own_info, peer_changes, peer_succeeds, peer_becomes, peer_was_asked, peer_comes, peer_goes, is_wanted_big, comes_big, owing, paid, sends_as_initiator, find_intersect, chain_sync_done, peer_sharing_done, handled_in, faulted, replies, stops_if, serves, begins, brings, talks, peer_is_ordinary, peer_at, without_entry}
 use Rattle.laws.specs.Words.verdict
 use Rattle.laws.specs.Words.kind
 use Rattle.laws.specs.Words.reply
@@ -10,14 +12,13 @@ use Rattle.warm_messages.specs.declared.alive.Alive.TheVariants.{Ask as AskAlive
 use Rattle.laws.specs.Acts.{Act, shows, fires_one, asks_for_roots, carries, connects, ends_dial, stores, handles_item, ends_stream, is_closed, sets_targets, sets_big_targets, sets_groups, sets_roots, makes_ordinary, provides, provides_big, does}
 use Rattle.laws.specs.CarriedOut.{forgets, brings_class, makes_one}
 use Rattle.laws.specs.InActions.{ended_by}
-use Rattle.laws.specs.OpenEnds.{goes_by_itself}
+use Rattle.laws.specs.OpenEnds.{is_open_entry, is_open_at, goes_by_itself}
 use Rattle.laws.specs.Parts.{IsNext}
 use Rattle.laws.specs.Sound.{IsOrderly}
 use Rattle.laws.specs.Steady.{IsOrdered}
 use Rattle.laws.specs.Untouched.{address_of, is_with, is_about, has_bytes, may_close}
-use Rattle.laws.specs.Waits.{until_gone, until_in, until_at}
-use Rattle.laws.proofs.Addresses.{same_address-self}
-use Rattle.laws.proofs.Lawful.{stands-found}
+use Rattle.laws.specs.Waits.{until_at}
+use Rattle.laws.proofs.Lawful.{lost-quiet, stands-found}
 use Rattle.laws.proofs.Lists.{find_some}
 use Rattle.laws.proofs.Cases.{by_option}
 use Rattle.laws.proofs.Connects.{connects-cases}
@@ -64,10 +65,7 @@ turned-undecoded other e m = refl
 
 -- and is live still where it was
 pub turned-live : (turn : Turn) (e : Entry) (m : Machine) → is_live e.facts ≡ true → is_live (turned_by turn e m).facts ≡ true
-turned-live opens e m live = refl
-turned-live (agrees_inbound agreed) e m live = refl
-turned-live (agrees_outbound agreed) e m live = refl
-turned-live other e m live = live
+turned-live turn e m live = grind arith
 
 -- one that nobody uses is closed
 abbrev pub shuts : Entry → Machine → Effect
@@ -80,8 +78,7 @@ answer-machine None cid m = refl
 answer-machine (Some bytes) cid m = refl
 
 pub says_done-machine : (f : Facts) (m : Machine) → (says_done f m).machine ≡ m
-says_done-machine f m = cond_both (agreed_sharing f.agreed) (sends_as_initiator f.cid 10 peer_sharing_done m) (nothing_more m) (λ effect. effect.machine ≡ m)
-    (λ sharing. refl) (λ other. refl)
+says_done-machine f m = grind arith
 
 -- one that is released stands so before one too many is pruned
 abbrev pub cooled : Entry → Machine → Machine
@@ -137,14 +134,58 @@ pub record Stands (scope : Scope) (e : Entry) (m : Machine) : Type 0 where
   pub own : scope.own e.facts.cid.0 ≡ true
 
 pub found-stands : (scope : Scope) (cid : ℕ) (m : Machine) (e : Entry) → entry_at cid m ≡ Some e → scope.own cid ≡ true → Stands scope e m
-found-stands scope cid m e is own =
-    let same : cid ≡ e.facts.cid.0 = sym (eqb-true e.facts.cid.0 cid (find_some (λ x. has_id cid x.facts) m.connections e is).passes) in
-    record { found = subst (λ c. entry_at c m ≡ Some e) same is; own = subst (λ c. scope.own c ≡ true) same own }
+found-stands scope cid m e is own = grind (arith, find_some (λ x. has_id cid x.facts) m.connections e is)
+
+-- that stands open, so that it may be spoken to
+pub record StandsOpen (scope : Scope) (e : Entry) (m : Machine) : Type 0 where
+  pub may : scope.sends ≡ true
+  pub found : entry_at e.facts.cid.0 m ≡ Some e
+  pub own : scope.own e.facts.cid.0 ≡ true
+  pub live : is_live e.facts ≡ true
+
+-- that turns into one that is open only where it is itself
+pub record Turns (scope : Scope) (turn : Turn) (e : Entry) (m : Machine) : Type 0 where
+  pub found : entry_at e.facts.cid.0 m ≡ Some e
+  pub own : scope.own e.facts.cid.0 ≡ true
+  pub back : is_live (turned_by turn e m).facts ≡ true → is_live e.facts ≡ true
+
+-- what is said is said to one that is open
+pub record MaySend (scope : Scope) (cid : ℕ) (m : Machine) : Type 0 where
+  pub may : scope.sends ≡ true
+  pub open_ : is_open_at cid m ≡ true
+
+may_send-open : (scope : Scope) (e : Entry) (m : Machine) → StandsOpen scope e m → MaySend scope e.facts.cid.0 m
+may_send-open scope e m s = record { may = s.may; open_ = ap is_open_entry s.found ∙ s.live }
+
+-- one that turns is open still
+turned-open : (e new : Entry) (m : Machine) → entry_at e.facts.cid.0 m ≡ Some e → new.facts.cid ≡ e.facts.cid → is_live new.facts ≡ true → is_open_at e.facts.cid.0 (with_entry new m) ≡ true
+turned-open e new m found same live = grind (arith, found, same, live, replaced e.facts.cid.0 new m.connections)
+
+-- whoever is found after a trim was found before
+pub trim-found : (moved : Cid) (cid : ℕ) (x : Entry) (m : Machine) → entry_at cid (trim moved m).machine ≡ Some x → entry_at cid m ≡ Some x
+trim-found moved cid x m = trim-cases moved m (λ effect. entry_at cid effect.machine ≡ Some x → entry_at cid m ≡ Some x) (λ found. found)
+    (λ e is found.
+    let n : Machine = without_entry e.facts.cid.0 m in
+    let same : entry_at cid n ≡ Some x = ap (find (λ y. has_id cid y.facts)) (sym (lost-quiet e.facts n).connections) ∙ found in
+    grind (arith, same, gone-found cid e.facts.cid.0 m.connections))
+
+-- and one on which a protocol begins is open, where it is there still
+begun-open : (protocol : ℕ) (e x : Entry) (m : Machine) → entry_at e.facts.cid.0 m ≡ Some e → is_live e.facts ≡ true →
+    entry_at e.facts.cid.0 (begins protocol e m).machine ≡ Some x → is_live x.facts ≡ true
+begun-open protocol e x m found live is =
+    let new : Entry = turned_by (awakes protocol) e m in
+    grind (arith, found, live, is, trim-found e.facts.cid e.facts.cid.0 x (with_entry new m), replaced e.facts.cid.0 new m.connections)
 
 -- whoever is found is the one that its id finds, and what has an address is the part's own
 pub record FindsOwn (scope : Scope) (addr : Addr) (m : Machine) : Type 0 where
   pub found : (q : Entry → Bool) (e : Entry) → find q m.connections ≡ Some e → entry_at e.facts.cid.0 m ≡ Some e
   pub own : (e : Entry) → entry_at e.facts.cid.0 m ≡ Some e → same_address e.facts.addr addr ≡ true → scope.own e.facts.cid.0 ≡ true
+
+-- what the scope is to allow for an order
+abbrev pub Allows : Scope → Order → Type 0
+Allows scope (Forget addr) = scope.forgets addr ≡ true
+Allows scope (Promote addr) = scope.dials ≡ true
+Allows scope other = Unit {0}
 
 -- ---- a relation that each change keeps
 
@@ -153,9 +194,9 @@ pub record Kept (scope : Scope) (R : Machine → Effect → Type 0) : Type 0 whe
   pub when_both : (m : Machine) (first : Effect) (next : Machine → Effect) → R m first → R first.machine (next first.machine) → R m (then_do first next)
   -- a move that ends nothing
   pub when_moved : (happened : Happened) (m : Machine) (effect : Effect) → ended_by happened ≡ [] → R m effect → R m (as_move happened m effect)
-  pub when_sent : (cid : Cid) (bytes : List ℕ) (m : Machine) → scope.sends ≡ true → R m (tells (Send cid bytes ∷ []) m)
+  pub when_sent : (cid : Cid) (bytes : List ℕ) (m : Machine) → MaySend scope cid.0 m → R m (tells (Send cid bytes ∷ []) m)
   -- a connection turns, or keeps other bytes
-  pub when_turned : (turn : Turn) (e : Entry) (m : Machine) → Stands scope e m → R m (entry_turns e (turned_by turn e m) m)
+  pub when_turned : (turn : Turn) (e : Entry) (m : Machine) → Turns scope turn e m → R m (entry_turns e (turned_by turn e m) m)
   pub when_stored : (undecoded : Undecoded) (e : Entry) (m : Machine) → Stands scope e m → scope.comes e.facts.cid.0 ≡ true →
       R m (entry_turns e (record e { undecoded = undecoded }) m)
   -- it is closed or ended, goes by itself, or its time-wait is over
@@ -176,22 +217,21 @@ pub record Kept (scope : Scope) (R : Machine → Effect → Type 0) : Type 0 whe
 module _ (scope : Scope) (R : Machine → Effect → Type 0) (kept : Kept scope R) where
   -- ---- what is sent
 
-  says-walk : (cid : Cid) (protocol : ℕ) (message : List ℕ) (m : Machine) → scope.sends ≡ true → R m (sends_as_initiator cid protocol message m)
+  says-walk : (cid : Cid) (protocol : ℕ) (message : List ℕ) (m : Machine) → MaySend scope cid.0 m → R m (sends_as_initiator cid protocol message m)
   says-walk cid protocol message m may = kept.when_sent cid (frame_of 0 protocol m.now message) m may
 
-  answers-walk : (o : Option (List ℕ)) (cid : Cid) (m : Machine) → scope.sends ≡ true → R m (sends_answer o cid m)
+  answers-walk : (o : Option (List ℕ)) (cid : Cid) (m : Machine) → MaySend scope cid.0 m → R m (sends_answer o cid m)
   answers-walk None cid m may = kept.when_nothing m
   answers-walk (Some bytes) cid m may = kept.when_sent cid (frame_of 1 0 m.now bytes) m may
 
-  replies-walk : (r : Reply) (protocol : ℕ) (e : Entry) (m : Machine) → scope.sends ≡ true → R m (replies r protocol e m)
+  replies-walk : (r : Reply) (protocol : ℕ) (e : Entry) (m : Machine) → MaySend scope e.facts.cid.0 m → R m (replies r protocol e m)
   replies-walk reply.Nothing protocol e m may = kept.when_nothing m
   replies-walk other protocol e m may = kept.when_sent e.facts.cid _ m may
 
   -- ---- a connection that is found
 
   pub on_found : (cid : ℕ) (act : Entry → Machine → Effect) (m : Machine) → ((e : Entry) → entry_at cid m ≡ Some e → R m (act e m)) → R m (on_entry (entry_at cid m) act m)
-  on_found cid act m each = by_option (entry_at cid m) (λ o. R m (on_entry o act m))
-      (λ is. kept.when_nothing m) (λ e is. each e is)
+  on_found cid act m each = grind arith
 
   pub trim-walk : (moved : Cid) (m : Machine) → R m (trim moved m)
   trim-walk moved m = trim-cases moved m (R m) (kept.when_nothing m) (λ e is. kept.when_ended Pruned e m)
@@ -201,81 +241,80 @@ module _ (scope : Scope) (R : Machine → Effect → Type 0) (kept : Kept scope 
   pub fires-walk : (sort : Kind) (e : Entry) (m : Machine) → scope.drops ≡ true → Stands scope e m → (sort ≡ kind.TimeWait → scope.timely ≡ true → is_live e.facts ≡ false) → R m (fires_as sort e m)
   fires-walk kind.Handshake e m drops stands over = kept.when_ended (Fault HandshakeWait) e m
   fires-walk kind.Grace e m drops stands over = cond_both e.facts.local (entry_turns e (turned_by expires e m) m) (shuts e m) (R m)
-      (λ local. kept.when_turned expires e m stands) (λ other. kept.when_shut e m stands drops)
+      (λ local. kept.when_turned expires e m assumption) (λ other. kept.when_shut e m stands drops)
   fires-walk kind.TimeWait e m drops stands over = kept.when_moved (gone e.facts.cid.0) m (entry_goes e m) refl (kept.when_over e m stands drops (over refl))
   fires-walk rest e m drops stands over = kept.when_ended (Fault ReplyWait) e m
 
   -- ---- the governor
 
-  uses-walk : (f : Facts) (e : Entry) (m : Machine) → scope.sends ≡ true → R m (entry_turns e (taken f e m) m) → R m (is_used f e m)
-  uses-walk f e m may turned =
+  uses-walk : (f : Facts) (e : Entry) (m : Machine) → StandsOpen scope e m → f.cid ≡ e.facts.cid → is_live f ≡ true → R m (entry_turns e (taken f e m) m) → R m (is_used f e m)
+  uses-walk f e m s same live turned =
       let n : Machine = with_entry (taken f e m) m in
       let alive : Machine → Effect = sends_as_initiator f.cid 8 (written_alive (AskAlive (f.cid.0 % 65536))) in
+      let warm : Peer → Peer = λ p. record p { temp = Warm; failures = 0 } in
+      let open_ : is_open_at f.cid.0 n ≡ true = subst (λ c. is_open_at c.0 n ≡ true) (sym same) (turned-open e (taken f e m) m s.found same live) in
       kept.when_both m (entry_turns e (taken f e m) m) (λ x. then_do (peer_succeeds f.addr x) alive) turned
-      (kept.when_both n (peer_succeeds f.addr n) alive (kept.when_changed f.addr (λ p. record p { temp = Warm; failures = 0 }) n (λ p. (refl, refl)))
-      (says-walk f.cid 8 (written_alive (AskAlive (f.cid.0 % 65536))) (peer_succeeds f.addr n).machine may))
+      (kept.when_both n (peer_succeeds f.addr n) alive (kept.when_changed f.addr warm n (λ p. (refl, refl)))
+      (says-walk f.cid 8 (written_alive (AskAlive (f.cid.0 % 65536))) (peer_succeeds f.addr n).machine
+      (record { may = s.may; open_ = subst (λ es. is_open_entry (find (λ x. has_id f.cid.0 x.facts) es) ≡ true) (sym (turns_at-connections (peer_at f.addr n) warm n)) open_ })))
 
-  pub acquire-walk : (e : Entry) (m : Machine) → scope.sends ≡ true → Stands scope e m → R m (acquire e m)
-  acquire-walk e m may stands = uses-walk (acquired e.facts) e m may (kept.when_turned is_acquired e m stands)
+  pub acquire-walk : (e : Entry) (m : Machine) → StandsOpen scope e m → R m (acquire e m)
+  acquire-walk e m s = uses-walk (acquired e.facts) e m s refl s.live (kept.when_turned is_acquired e m assumption)
 
-  says_done-walk : (f : Facts) (m : Machine) → scope.sends ≡ true → R m (says_done f m)
-  says_done-walk f m may =
-      let first : Effect = if agreed_sharing f.agreed then sends_as_initiator f.cid 10 peer_sharing_done m else nothing_more m in
-      kept.when_both m first (sends_as_initiator f.cid 8 (written_alive Done))
-      (cond_both (agreed_sharing f.agreed) (sends_as_initiator f.cid 10 peer_sharing_done m) (nothing_more m) (R m)
-      (λ sharing. says-walk f.cid 10 peer_sharing_done m may) (λ other. kept.when_nothing m))
-      (says-walk f.cid 8 (written_alive Done) first.machine may)
+  says_done-walk : (e : Entry) (m : Machine) → StandsOpen scope e m → R m (says_done e.facts m)
+  says_done-walk e m s =
+      let may : MaySend scope e.facts.cid.0 m = may_send-open scope e m s in
+      let sharing : Effect = sends_as_initiator e.facts.cid 10 peer_sharing_done m in
+      let alive : Machine → Effect = sends_as_initiator e.facts.cid 8 (written_alive Done) in
+      cond_both (agreed_sharing e.facts.agreed) sharing (nothing_more m) (λ first. R m (then_do first alive))
+      (λ agreed. kept.when_both m sharing alive (says-walk e.facts.cid 10 peer_sharing_done m may) (says-walk e.facts.cid 8 (written_alive Done) m may))
+      (λ other. kept.when_both m (nothing_more m) alive (kept.when_nothing m) (says-walk e.facts.cid 8 (written_alive Done) m may))
 
-  pub release-walk : (e : Entry) (m : Machine) → scope.sends ≡ true → Stands scope e m → R m (release e m)
-  release-walk e m may stands = release-parts R kept.when_both e m (says_done-walk e.facts m may) (kept.when_turned is_released e m stands)
+  pub release-walk : (e : Entry) (m : Machine) → StandsOpen scope e m → R m (release e m)
+  release-walk e m s = release-parts R kept.when_both e m (says_done-walk e m s) (kept.when_turned is_released e m assumption)
       (kept.when_changed e.facts.addr (λ p. record p { temp = Cold }) (with_entry (turned_by is_released e m) m) (λ p. (refl, refl))) (trim-walk e.facts.cid (cooled e m))
 
-  pub asks_peer-walk : (number : ℕ) (e : Entry) (m : Machine) → scope.sends ≡ true → Stands scope e m → R m (asks_peer number e m)
-  asks_peer-walk number e m may stands =
+  pub asks_peer-walk : (number : ℕ) (e : Entry) (m : Machine) → StandsOpen scope e m → R m (asks_peer number e m)
+  asks_peer-walk number e m s =
       let n : Machine = with_entry (owing 10 number m e) m in
       let alone : Machine → Effect = λ w. peer_was_asked (w.now + w.settings.sharegap) e.facts.addr w in
       kept.when_both m (sends_as_initiator e.facts.cid 10 (written_request number) m) (λ w. then_do (entry_turns e (owing 10 number w e) w) alone)
-      (says-walk e.facts.cid 10 (written_request number) m may)
-      (kept.when_both m (entry_turns e (owing 10 number m e) m) alone (kept.when_turned (owes 10 number) e m stands)
+      (says-walk e.facts.cid 10 (written_request number) m (may_send-open scope e m s))
+      (kept.when_both m (entry_turns e (owing 10 number m e) m) alone (kept.when_turned (owes 10 number) e m assumption)
       (kept.when_changed e.facts.addr (λ p. record p { share_next = n.now + n.settings.sharegap }) n (λ p. (refl, refl))))
 
-  pub activates-walk : (e : Entry) (m : Machine) → scope.sends ≡ true → Stands scope e m → R m (activates e m)
-  activates-walk e m may stands =
+  pub activates-walk : (e : Entry) (m : Machine) → StandsOpen scope e m → R m (activates e m)
+  activates-walk e m s =
       kept.when_both m (sends_as_initiator e.facts.cid 2 find_intersect m) (λ w. entry_turns e (owing 2 0 w e) w)
-      (says-walk e.facts.cid 2 find_intersect m may) (kept.when_turned (owes 2 0) e m stands)
+      (says-walk e.facts.cid 2 find_intersect m (may_send-open scope e m s)) (kept.when_turned (owes 2 0) e m assumption)
 
-  pub deactivates-walk : (e : Entry) (m : Machine) → scope.sends ≡ true → R m (deactivates e m)
-  deactivates-walk e m may =
+  deactivates-walk : (e : Entry) (m : Machine) → StandsOpen scope e m → R m (deactivates e m)
+  deactivates-walk e m s =
       kept.when_both m (sends_as_initiator e.facts.cid 2 chain_sync_done m) (peer_becomes Warm e.facts.addr)
-      (says-walk e.facts.cid 2 chain_sync_done m may) (kept.when_changed e.facts.addr (λ p. record p { temp = Warm }) m (λ p. (refl, refl)))
+      (says-walk e.facts.cid 2 chain_sync_done m (may_send-open scope e m s)) (kept.when_changed e.facts.addr (λ p. record p { temp = Warm }) m (λ p. (refl, refl)))
 
-  stands-own : (addr : Addr) (m : Machine) (q : Entry → Bool) (e : Entry) → FindsOwn scope addr m → find q m.connections ≡ Some e → same_address e.facts.addr addr ≡ true → Stands scope e m
-  stands-own addr m q e finds is at = let found = finds.found q e is in record { found = found; own = finds.own e found at }
+  -- the live one that an order finds
+  stands-own : (addr : Addr) (m : Machine) (q : Entry → Bool) (e : Entry) → scope.sends ≡ true → FindsOwn scope addr m → find q m.connections ≡ Some e → is_live_at addr e.facts ≡ true →
+      StandsOpen scope e m
+  stands-own addr m q e may finds is at =
+      let parts = and_parts (same_address e.facts.addr addr) (is_live e.facts) at in
+      let found = finds.found q e is in
+      record { may = may; found = found; own = finds.own e found parts.0; live = parts.1 }
 
-  on_used-walk : (addr : Addr) (act : Entry → Machine → Effect) (m : Machine) → FindsOwn scope addr m → ((e : Entry) → Stands scope e m → R m (act e m)) → R m (on_used addr act m)
-  on_used-walk addr act m finds each = by_option (find (is_used_at addr) m.connections) (λ o. R m (on_entry o act m))
+  on_used-walk : (addr : Addr) (act : Entry → Machine → Effect) (m : Machine) → scope.sends ≡ true → FindsOwn scope addr m → ((e : Entry) → StandsOpen scope e m → R m (act e m)) → R m (on_used addr act m)
+  on_used-walk addr act m may finds each = by_option (find (is_used_at addr) m.connections) (λ o. R m (on_entry o act m))
       (λ is. kept.when_nothing m)
-      (λ e is.
-      let used = and_parts (is_live_at addr e.facts) e.facts.local (find_some (is_used_at addr) m.connections e is).passes in
-      each e (stands-own addr m (is_used_at addr) e finds is (and_parts (same_address e.facts.addr addr) (is_live e.facts) used.0).0))
+      (λ e is. each e (stands-own addr m (is_used_at addr) e may finds is (and_parts (is_live_at addr e.facts) e.facts.local (find_some (is_used_at addr) m.connections e is).passes).0))
 
   promoted_at-walk : (addr : Addr) (m : Machine) → scope.sends ≡ true → scope.dials ≡ true → FindsOwn scope addr m → R m (promoted_at (live_entry_at addr m) addr m)
-  promoted_at-walk addr m may may_dial finds = by_option (live_entry_at addr m) (λ o. R m (promoted_at o addr m))
-      (λ is. kept.when_dialed addr m may_dial)
-      (λ e is.
-      let live = find_some (λ x. is_live_at addr x.facts) m.connections e is in
-      let at = (and_parts (same_address e.facts.addr addr) (is_live e.facts) live.passes).0 in
-      cond_both (is_acquirable e.facts) (acquire e m) (dial addr m) (R m)
-      (λ free. acquire-walk e m may (stands-own addr m (λ x. is_live_at addr x.facts) e finds is at)) (λ other. kept.when_dialed addr m may_dial))
+  promoted_at-walk addr m may allows finds = by_option (live_entry_at addr m) (λ o. R m (promoted_at o addr m))
+      (λ is. kept.when_dialed addr m allows)
+      (λ e is. cond_both (is_acquirable e.facts) (acquire e m) (dial addr m) (R m)
+      (λ free. acquire-walk e m (stands-own addr m (λ x. is_live_at addr x.facts) e may finds is (find_some (λ x. is_live_at addr x.facts) m.connections e is).passes))
+      (λ other. kept.when_dialed addr m allows))
 
-  pub orders-walk : (order : Order) (m : Machine) → scope.sends ≡ true → scope.dials ≡ true → ((addr : Addr) → order ≡ Forget addr → scope.forgets addr ≡ true) →
-      FindsOwn scope (address_of order) m → R m (carries_out order m)
-  orders-walk (Ask addr number) m may may_dial may_forget own = on_used-walk addr (asks_peer number) m own (λ e stands. asks_peer-walk number e m may stands)
-  orders-walk (Forget addr) m may may_dial may_forget own = kept.when_forgotten addr m (may_forget addr refl)
-  orders-walk (Promote addr) m may may_dial may_forget own = kept.when_moved (promoted addr) m (promoted_at (live_entry_at addr m) addr m) refl (promoted_at-walk addr m may may_dial own)
-  orders-walk (Release addr) m may may_dial may_forget own = on_used-walk addr release m own (λ e stands. release-walk e m may stands)
-  orders-walk (Activate addr) m may may_dial may_forget own = kept.when_moved (activated addr) m (on_used addr activates m) refl (on_used-walk addr activates m own (λ e stands. activates-walk e m may stands))
-  orders-walk (Deactivate addr) m may may_dial may_forget own = on_used-walk addr deactivates m own (λ e stands. deactivates-walk e m may)
+  pub orders-walk : (order : Order) (m : Machine) → scope.sends ≡ true → Allows scope order → FindsOwn scope (address_of order) m → R m (carries_out order m)
+  orders-walk order m may allows own = grind (arith, on_used-walk, asks_peer-walk, promoted_at-walk, release-walk, activates-walk, deactivates-walk)
 
   -- ---- a peer connects, a dial ends, or the other side closes
 
@@ -284,51 +323,51 @@ module _ (scope : Scope) (R : Machine → Effect → Type 0) (kept : Kept scope 
       (λ room e is pending. kept.when_both m (ending Overwritten e m) (admitted addr) (kept.when_ended Overwritten e m)
       (kept.when_admitted addr (ending Overwritten e m).machine may))
 
-  opens-walk : (e : Entry) (m : Machine) → scope.sends ≡ true → Stands scope e m → R m (dial_opens e m)
-  opens-walk e m may stands =
-      kept.when_both m (entry_turns e (turned_by opens e m) m) (λ w. sends_as_initiator e.facts.cid 0 (proposal_of (own_info m.settings)) w) (kept.when_turned opens e m stands)
-      (says-walk e.facts.cid 0 (proposal_of (own_info m.settings)) (with_entry (turned_by opens e m) m) may)
+  opens-walk : (e : Entry) (m : Machine) → StandsOpen scope e m → R m (dial_opens e m)
+  opens-walk e m s =
+      kept.when_both m (entry_turns e (turned_by opens e m) m) (λ w. sends_as_initiator e.facts.cid 0 (proposal_of (own_info m.settings)) w) (kept.when_turned opens e m assumption)
+      (says-walk e.facts.cid 0 (proposal_of (own_info m.settings)) (with_entry (turned_by opens e m) m)
+      (record { may = s.may; open_ = turned-open e (turned_by opens e m) m s.found refl refl }))
 
   -- it goes by itself where the dial has failed
   pub dialed-walk : (opened : Bool) (e : Entry) (m : Machine) → scope.sends ≡ true → Stands scope e m →
       (is_dialing e.facts ≡ true → opened ≡ false → scope.goes e.facts.cid.0 ≡ true) → R m (dialed opened e m)
-  dialed-walk opened e m may stands itself = cond_both (is_dialing e.facts) (if opened then dial_opens e m else dial_fails e m) (nothing_more m) (R m)
-      (λ dials. cond_both opened (dial_opens e m) (dial_fails e m) (R m) (λ open_. opens-walk e m may stands)
-      (λ fails. kept.when_moved (gone e.facts.cid.0) m (vanishes e m) refl (kept.when_gone e m (itself dials fails))))
-      (λ other. kept.when_nothing m)
+  dialed-walk opened e m may stands itself =
+      let opens : is_dialing e.facts ≡ true → R m (dial_opens e m) = λ dials. opens-walk e m (record { may = may; found = stands.found; own = stands.own; live = grind (arith, dials) }) in
+      grind (arith, opens, kept.when_moved (gone e.facts.cid.0) m (vanishes e m) refl, kept.when_gone e m, itself, kept.when_nothing m)
 
   -- ---- an item in the handshake
 
-  judged-walk : (v : Verdict) (e : Entry) (m : Machine) → scope.sends ≡ true → Stands scope e m → R m (judged v e m)
-  judged-walk (verdict.Accept agreed) e m may stands = kept.when_turned (agrees_inbound agreed) e m stands
-  judged-walk verdict.Query e m may stands = kept.when_ended Query e m
-  judged-walk (verdict.Agree agreed) e m may stands =
-      uses-walk (agreed_outbound agreed (m.now + m.settings.idle) e.facts) e m may (kept.when_turned (agrees_outbound agreed) e m stands)
-  judged-walk verdict.Wrong e m may stands = kept.when_ended (Fault Protocol) e m
-  judged-walk other e m may stands = kept.when_ended Refused e m
+  judged-walk : (v : Verdict) (e : Entry) (m : Machine) → StandsOpen scope e m → R m (judged v e m)
+  judged-walk (verdict.Accept agreed) e m s = kept.when_turned (agrees_inbound agreed) e m assumption
+  judged-walk verdict.Query e m s = kept.when_ended Query e m
+  judged-walk (verdict.Agree agreed) e m s =
+      uses-walk (agreed_outbound agreed (m.now + m.settings.idle) e.facts) e m s refl refl (kept.when_turned (agrees_outbound agreed) e m assumption)
+  judged-walk verdict.Wrong e m s = kept.when_ended (Fault Protocol) e m
+  judged-walk other e m s = kept.when_ended Refused e m
 
-  greets-walk : (item : Item) (e : Entry) (m : Machine) → scope.sends ≡ true → Stands scope e m → R m (greets item e m)
-  greets-walk item e m may stands = greets-cases item e m (R m) (λ fault. kept.when_ended (Fault fault) e m)
+  greets-walk : (item : Item) (e : Entry) (m : Machine) → StandsOpen scope e m → R m (greets item e m)
+  greets-walk item e m s = greets-cases item e m (R m) (λ fault. kept.when_ended (Fault fault) e m)
       (λ msg is.
       let v : Verdict = verdict_of (role_of e.facts.provenance) (own_info m.settings) msg in
       let answer : Option (List ℕ) = answer_of v (own_info m.settings) in
-      kept.when_both m (sends_answer answer e.facts.cid m) (judged v e) (answers-walk answer e.facts.cid m may)
-      (subst (λ w. R w (judged v e w)) (sym (answer-machine answer e.facts.cid m)) (judged-walk v e m may stands)))
+      kept.when_both m (sends_answer answer e.facts.cid m) (judged v e) (answers-walk answer e.facts.cid m (may_send-open scope e m s))
+      (subst (λ w. R w (judged v e w)) (sym (answer-machine answer e.facts.cid m)) (judged-walk v e m s)))
 
   -- ---- an item once the handshake is done
 
-  pub stops-walk : (done : Bool) (protocol : ℕ) (e : Entry) (m : Machine) → Stands scope e m → R m (stops_if done protocol e m)
-  stops-walk true protocol e m stands = kept.when_turned (idles protocol) e m stands
-  stops-walk false protocol e m stands = kept.when_nothing m
+  stops-walk : (done : Bool) (protocol : ℕ) (e : Entry) (m : Machine) → StandsOpen scope e m → R m (stops_if done protocol e m)
+  stops-walk true protocol e m s = kept.when_turned (idles protocol) e m assumption
+  stops-walk false protocol e m s = kept.when_nothing m
 
-  serves-walk : (seen : Seen) (protocol : ℕ) (e : Entry) (m : Machine) → scope.sends ≡ true → Stands scope e m → R m (serves seen protocol e m)
-  serves-walk seen protocol e m may stands =
-      kept.when_both m (replies seen.reply protocol e m) (stops_if seen.done protocol e) (replies-walk seen.reply protocol e m may)
-      (subst (λ w. R w (stops_if seen.done protocol e w)) (sym (replies-machine seen.reply protocol e m)) (stops-walk seen.done protocol e m stands))
+  serves-walk : (seen : Seen) (protocol : ℕ) (e : Entry) (m : Machine) → StandsOpen scope e m → R m (serves seen protocol e m)
+  serves-walk seen protocol e m s =
+      kept.when_both m (replies seen.reply protocol e m) (stops_if seen.done protocol e) (replies-walk seen.reply protocol e m (may_send-open scope e m s))
+      (subst (λ w. R w (stops_if seen.done protocol e w)) (sym (replies-machine seen.reply protocol e m)) (stops-walk seen.done protocol e m s))
 
   pub begins-walk : (protocol : ℕ) (e : Entry) (m : Machine) → Stands scope e m → R m (begins protocol e m)
   begins-walk protocol e m stands = cond_both (runs protocol e.facts.running) (nothing_more m) (awake protocol e m) (R m) (λ running. kept.when_nothing m)
-      (λ silent. kept.when_both m (entry_turns e (turned_by (awakes protocol) e m) m) (trim e.facts.cid) (kept.when_turned (awakes protocol) e m stands)
+      (λ silent. kept.when_both m (entry_turns e (turned_by (awakes protocol) e m) m) (trim e.facts.cid) (kept.when_turned (awakes protocol) e m assumption)
       (trim-walk e.facts.cid (with_entry (turned_by (awakes protocol) e m) m)))
 
   comes-walk : (big : Bool) (addr : Addr) (m : Machine) → scope.brings big ≡ true → R m (as_move (shared addr) m (peer_comes big addr m))
@@ -338,19 +377,23 @@ module _ (scope : Scope) (R : Machine → Effect → Type 0) (kept : Kept scope 
   brings-walk protocol body e m may = brings-cases R kept.when_nothing kept.when_both (λ addr n. comes-walk false addr n may)
       (λ addr n. kept.when_changed addr (λ p. record p { temp = Hot }) n (λ p. (refl, refl))) protocol body e m
 
-  talks-walk : (item : Item) (e : Entry) (m : Machine) → scope.sends ≡ true → scope.brings false ≡ true → Stands scope e m → R m (talks item e m)
-  talks-walk item e m may may_bring stands =
+  talks-walk : (item : Item) (e : Entry) (m : Machine) → scope.brings false ≡ true → StandsOpen scope e m → R m (talks item e m)
+  talks-walk item e m may_bring s =
       let n : Machine = (begins item.id e m).machine in
       talks-cases item e m (R m) (λ fault. kept.when_ended (Fault fault) e m)
-      (λ first seen was takes. kept.when_both m (begins item.id e m) (on_connection e.facts.cid (serves seen item.id)) (begins-walk item.id e m stands)
-      (on_found e.facts.cid.0 (serves seen item.id) n (λ f here. serves-walk seen item.id f n may (found-stands scope e.facts.cid.0 n f here stands.own))))
-      (λ second owed is. kept.when_both m (entry_turns e (paid item.id e) m) (brings item.id item.body e) (kept.when_turned (is_paid item.id) e m stands)
+      (λ first seen was takes. kept.when_both m (begins item.id e m) (on_connection e.facts.cid (serves seen item.id)) (begins-walk item.id e m assumption)
+      (on_found e.facts.cid.0 (serves seen item.id) n (λ f here.
+      let stands : Stands scope f n = found-stands scope e.facts.cid.0 n f here s.own in
+      serves-walk seen item.id f n (record { may = s.may; found = stands.found; own = stands.own; live = begun-open item.id e f m s.found s.live here }))))
+      (λ second owed is. kept.when_both m (entry_turns e (paid item.id e) m) (brings item.id item.body e) (kept.when_turned (is_paid item.id) e m assumption)
       (brings-walk item.id item.body e (with_entry (paid item.id e) m) may_bring))
 
-  pub handled-walk : (p : Phase) (item : Item) (e : Entry) (m : Machine) → scope.sends ≡ true → scope.brings false ≡ true → Stands scope e m → R m (handled_in p item e m)
-  handled-walk (Greeting until) item e m may may_bring stands = greets-walk item e m may stands
-  handled-walk Negotiated item e m may may_bring stands = talks-walk item e m may may_bring stands
-  handled-walk other item e m may may_bring stands = kept.when_nothing m
+  -- by how far it has come
+  pub handled-walk : (p : Phase) (item : Item) (e : Entry) (m : Machine) → e.facts.phase ≡ p → scope.sends ≡ true → scope.brings false ≡ true → Stands scope e m →
+      R m (handled_in p item e m)
+  handled-walk (Greeting until) item e m at may may_bring stands = grind (arith, greets-walk)
+  handled-walk Negotiated item e m at may may_bring stands = grind (arith, talks-walk)
+  handled-walk other item e m at may may_bring stands = kept.when_nothing m
 
   pub faulted-walk : (fault : Option CutFault) (e : Entry) (m : Machine) → R m (faulted fault e m)
   faulted-walk None e m = kept.when_nothing m
@@ -414,11 +457,7 @@ scope_of act m = record {
 
 -- what waits its time is live no more
 waiting-closed : (cid at : ℕ) (m : Machine) (e : Entry) → entry_at cid m ≡ Some e → until_at kind.TimeWait cid m ≡ Some at → is_live e.facts ≡ false
-waiting-closed cid at m e is waits = by_phase e.facts.phase (sym (ap (until_in kind.TimeWait) is) ∙ waits)
-  where
-    by_phase : (p : Phase) → until_gone p ≡ Some at → live_phase p ≡ false
-    by_phase (Closing until) h = refl
-    by_phase other h = absurd cc
+waiting-closed cid at m e is waits = grind arith
 
 pub orderly-finds : (order : Order) (m : Machine) → IsOrderly m → FindsOwn (scope_of (carries order) m) (address_of order) m
 orderly-finds order m h = record {
@@ -426,8 +465,8 @@ orderly-finds order m h = record {
   own = λ e is at. subst (λ o. is_with (address_of order) o ≡ true) (sym is) at;
 }
 
-pub forgets_own : (order : Order) (addr : Addr) → order ≡ Forget addr → forgets (carries order) addr ≡ true
-forgets_own order addr is = subst (λ o. forgets (carries o) addr ≡ true) (sym is) (same_address-self addr)
+pub allows-order : (order : Order) (m : Machine) → Allows (scope_of (carries order) m) order
+allows-order order m = grind arith
 
 pub own_id : (cid : ℕ) → (cid == cid) ≡ true
 own_id cid = eq-eqb cid cid refl
@@ -442,29 +481,14 @@ module _ (act : Act) (m : Machine) (R : Machine → Effect → Type 0) (kept : K
 
 -- Whatever each change keeps holds of each part that sets nothing.
 pub walk : (act : Act) (m : Machine) (R : Machine → Effect → Type 0) → IsChange act → IsNext act m → Finds act m → Kept (scope_of act m) R → R m (does act m)
-walk (fires_one d) m R change next found kept =
-    named-walk (fires_one d) m R kept d.cid.0 (fires_as d.kind) (own_id d.cid.0)
-    (λ e is same stands. fires-walk (scope_of (fires_one d) m) R kept d.kind e m refl stands
-    (λ sort timely. waiting-closed d.cid.0 d.at m e is (subst (λ k. until_at k d.cid.0 m ≡ Some d.at) sort next.waited)))
-walk (carries order) m R change next found kept = orders-walk (scope_of (carries order) m) R kept order m refl refl (forgets_own order) (orderly-finds order m found.orderly)
+walk (fires_one d) m R change next found kept = grind (arith, own_id, named-walk, fires-walk, waiting-closed)
+walk (carries order) m R change next found kept = orders-walk (scope_of (carries order) m) R kept order m refl (allows-order order m) (orderly-finds order m found.orderly)
 walk (connects addr) m R change next found kept = connects-walk (scope_of (connects addr) m) R kept addr m refl
-walk (ends_dial cid opened) m R change next found kept =
-    named-walk (ends_dial cid opened) m R kept cid.0 (dialed opened) (own_id cid.0)
-    (λ e is same stands. dialed-walk (scope_of (ends_dial cid opened) m) R kept opened e m refl stands (itself e is same))
-  where
-    itself : (e : Entry) → entry_at cid.0 m ≡ Some e → cid.0 ≡ e.facts.cid.0 → is_dialing e.facts ≡ true → opened ≡ false → goes_by_itself (ends_dial cid opened) m e.facts.cid.0 ≡ true
-    itself e is same dials failed = subst (λ c. goes_by_itself (ends_dial cid opened) m c ≡ true) same (rw (own_id cid.0, failed, is) dials)
-walk (stores e undecoded) m R change next found kept =
-    kept.when_stored undecoded e m (record { found = found; own = own_id e.facts.cid.0 }) (own_id e.facts.cid.0)
-walk (handles_item cid item) m R change next found kept =
-    named-walk (handles_item cid item) m R kept cid.0 (handled item) (own_id cid.0)
-    (λ e is same stands. handled-walk (scope_of (handles_item cid item) m) R kept e.facts.phase item e m refl refl stands)
-walk (ends_stream cid fault) m R change next found kept =
-    named-walk (ends_stream cid fault) m R kept cid.0 (faulted fault) (own_id cid.0) (λ e is same stands. faulted-walk (scope_of (ends_stream cid fault) m) R kept fault e m)
-walk (is_closed cid) m R change next found kept =
-    named-walk (is_closed cid) m R kept cid.0 closes (own_id cid.0)
-    (λ e is same stands. cond_both (is_live e.facts) (vanishes e m) (nothing_more m) (R m)
-    (λ live. kept.when_gone e m (eq-eqb cid.0 e.facts.cid.0 same)) (λ closed. kept.when_nothing m))
+walk (ends_dial cid opened) m R change next found kept = grind (arith, own_id, named-walk, dialed-walk)
+walk (stores e undecoded) m R change next found kept = grind (arith, own_id)
+walk (handles_item cid item) m R change next found kept = grind (arith, own_id, named-walk, handled-walk)
+walk (ends_stream cid fault) m R change next found kept = grind (arith, own_id, named-walk, faulted-walk)
+walk (is_closed cid) m R change next found kept = grind (arith, own_id, named-walk)
 walk (makes_ordinary addr) m R change next found kept = kept.when_made addr m refl
 walk (provides addr) m R change next found kept = kept.when_known false addr m refl
 walk (provides_big addr) m R change next found kept = big-walk (scope_of (provides_big addr) m) R kept addr m refl

@@ -1,9 +1,9 @@
 -- The moves of connections in the whole machine: what each keeps, and by how much it may raise the counted ones.
-use Rattle.std.proofs.Common.{ℕ, ◌+◌, ◌%◌, ◌≤◌, ◌≡◌, Bool, true, false, ◌&&◌, ◌||◌, nat_le, ◌==◌, if◌then◌else◌, count_by, Option, Some, None, is_some, subst, refl, sym, ap, ◌∙◌, arith}
-use Rattle.laws.proofs.Words.{cond_both, both_ways, and_parts, and_from, false≢true, false_from_ne_true, and_right}
-use Rattle.laws.specs.Words.{CloseCause, Overwritten, Agreed, Cid, Facts, Undecoded, Grace, Off, ForRemote, ForLocal, Phase, Dialing, Greeting, Negotiated, Closing, Peer, Warm, Version, settings_tests, failed_peer, connected, agreed_inbound, agreed_outbound, acquired, released, awakened, idled, agreed_sharing, is_pending, opening_phase, is_negotiated, is_negotiated_phase, is_dialing, is_dialing_phase, is_greeting, is_greeting_phase, live_phase, is_outbound, is_for_remote, some_runs, is_acquirable, is_live, Machine, Entry, live_entry_at, nothing_more, peer_at, peer_fails, peer_succeeds, reply_on, owing, paid, is_owed_on, with_entry, without_entry, is_missed, lost, lost_by, ending, vanishes, is_used, is_agreed_inbound, is_agreed_outbound, acquire, idle, grace_deadlines, Effect}
+use Rattle.std.proofs.Common.{ℕ, ◌+◌, ◌%◌, ◌≤◌, ◌≡◌, Bool, true, false, ◌||◌, nat_le, ◌==◌, if◌then◌else◌, count_by, Option, Some, None, is_some, subst, refl, sym, ap, ◌∙◌, arith}
+use Rattle.laws.proofs.Words.{cond_both, and_from, false≢true}
+use Rattle.laws.specs.Words.{CloseCause, Overwritten, Agreed, Cid, Facts, Undecoded, Grace, Off, ForRemote, ForLocal, Phase, Dialing, Greeting, Negotiated, Peer, Warm, Version, settings_tests, failed_peer, connected, agreed_inbound, agreed_outbound, acquired, released, awakened, idled, agreed_sharing, is_pending, opening_phase, is_negotiated, is_negotiated_phase, is_dialing, is_dialing_phase, is_greeting, is_greeting_phase, live_phase, is_outbound, is_for_remote, some_runs, is_acquirable, is_live, Machine, Entry, live_entry_at, nothing_more, peer_at, peer_fails, peer_succeeds, reply_on, owing, paid, is_owed_on, with_entry, without_entry, is_missed, lost, lost_by, ending, vanishes, is_used, is_agreed_inbound, is_agreed_outbound, acquire, idle, grace_deadlines}
 use Rattle.laws.specs.AtMoves.{IsReady}
-use Rattle.laws.specs.Steady.{IsShaped, IsUnused, AreTied, TiedBy, IsTied, IsOwing, IsOrdered}
+use Rattle.laws.specs.Steady.{IsShaped, IsUnused, TiedBy, IsTied, IsOwing, IsOrdered}
 use Rattle.laws.proofs.Counts.{counted_of, late_of, one_if_counted, is_late, grace_late_of}
 use Rattle.laws.proofs.Effects.{at_most_one, one_if-counted, one_if-not_counted, counted-connected, counted-greeting, counted-agreed_outbound, fewer-acquired, counted-running, phase_late_of, owed_late, late-fewer, ahead, phase-ahead, remote-ahead, local-ahead, owing-fewer, paid-fewer}
 use Rattle.laws.proofs.Entries.{TurnsInto}
@@ -13,7 +13,6 @@ use Rattle.laws.proofs.Owing.{OwesNothing, nothing-owing, nothing_owed, alike-ow
 use Rattle.laws.proofs.Ties.{turned-ties, gone-ties, changed-ties, gone_here, gone_elsewhere, turned_here, turned_elsewhere, live_here}
 use Rattle.laws.proofs.Settings.{first_failing-none, interval-positive, handshake-positive}
 use Rattle.laws.proofs.Shapes.{connected-shaped, agreed_inbound-shaped, agreed_outbound-shaped, acquired-shaped, released-shaped, awakened-shaped, idled-shaped, running-negotiated, greeting-unnegotiated, serves_remote, can_acquire}
-use Rattle.laws.proofs.Cases.{by_bool}
 
 -- ---- intervals
 
@@ -40,29 +39,15 @@ pub stands-owing : (m : Machine) (e : Entry) (k : ℕ) → IsOrdered m → Stand
 stands-owing m e k h s = All-stands IsOwing m.connections k e s h.formed.owing
 
 pub pending-unnegotiated : (f : Facts) → is_pending f ≡ true → is_negotiated f ≡ false
-pending-unnegotiated f h = by_phase f.phase refl (and_parts (is_outbound f) (opening_phase f.phase) h).1
-  where
-    by_phase : (p : Phase) → f.phase ≡ p → opening_phase f.phase ≡ true → is_negotiated f ≡ false
-    by_phase Negotiated is opening = absurd (both_ways (opening_phase f.phase) (ap opening_phase is) opening)
-    by_phase other is opening = ap is_negotiated_phase is
+pending-unnegotiated f h = grind arith
 
 -- ---- a connection goes
 
 missed-live : (f : Facts) → IsShaped f → is_missed f ≡ true → is_live f ≡ true
-missed-live f shape missed = by_phase f.phase refl
-  where
-    dead : is_negotiated f ≡ false → is_pending f ≡ false → is_missed f ≡ false
-    dead unused idle = rw ((shape.unused unused).local, idle) refl
-
-    by_phase : (p : Phase) → f.phase ≡ p → is_live f ≡ true
-    by_phase (Closing until) is =
-        absurd (both_ways (is_missed f)
-        (dead (ap is_negotiated_phase is) (and_right (is_outbound f) (opening_phase f.phase) (ap opening_phase is))) missed)
-    by_phase other is = ap live_phase is
+missed-live f shape missed = grind arith
 
 not_missed-unused : (f : Facts) → is_missed f ≡ false → f.local ≡ false
-not_missed-unused f h = by_bool f.local (λ b. (b || is_pending f) ≡ false → b ≡ false)
-    (λ is h. absurd (false≢true (sym h))) (λ is h. refl) h
+not_missed-unused f h = grind arith
 
 lost-ties : (m : Machine) (e : Entry) (k : ℕ) → IsOrdered m → StandsAt m.connections k e → IsTied m →
     IsTied (lost e.facts (without_entry e.facts.cid.0 m)).machine
@@ -71,11 +56,8 @@ lost-ties m e k h s ties =
     let shape : IsShaped e.facts = stands-shaped m e k h s in
     cond_both (is_missed e.facts) (peer_fails e.facts.addr n) (nothing_more n) (λ effect. IsTied effect.machine)
     (λ missed.
-    let live : is_live e.facts ≡ true = missed-live e.facts shape missed in
-    let none : live_entry_at e.facts.addr n ≡ None = gone_here m e k h.orderly s live in
-    changed-ties e.facts.addr (failed_peer n.now n.settings.backoff) m n (λ p. refl) refl refl (gone_elsewhere m e k h.orderly s)
-    (λ no_peer alone. subst (λ o. TiedBy m.now None o) (sym none) tt)
-    (λ p found tie. subst (λ o. TiedBy m.now (Some (failed_peer n.now n.settings.backoff p)) o) (sym none) refl) ties)
+    let none : live_entry_at e.facts.addr n ≡ None = gone_here m e k h.orderly s (missed-live e.facts shape missed) in
+    changed-ties e.facts.addr (failed_peer n.now n.settings.backoff) m n (λ p. refl) refl refl (gone_elsewhere m e k h.orderly s) (grind (arith, none)) (grind (arith, none)) ties)
     (λ other. gone-ties m e k h.orderly s (λ live. not_missed-unused e.facts other) ties)
 
 -- it is ended or has vanished, and its peer fails where it is missed
@@ -84,10 +66,8 @@ gone_lost-keeps : (m : Machine) (e : Entry) (k : ℕ) → IsOrdered m → Stands
 gone_lost-keeps m e k h s =
     let n : Machine = without_entry e.facts.cid.0 m in
     let goes : Moves 0 m n = goes-moves m e k h s in
-    moves-keeps 0 m (lost e.facts n).machine (moves_then 0 0 m n (lost e.facts n).machine goes
-    (cond_both (is_missed e.facts) _ _ (λ (effect : Effect). Moves 0 n effect.machine)
-    (λ missed. changes-moves e.facts.addr (failed_peer n.now n.settings.backoff) n (λ p. refl) (λ p ordinary. ordinary) goes.ordered) (λ other. moves_nothing n goes.ordered)))
-    (lost-ties m e k h s)
+    let fails = changes-moves e.facts.addr (failed_peer n.now n.settings.backoff) n (λ p. refl) (λ p ordinary. ordinary) goes.ordered in
+    moves-keeps 0 m (lost e.facts n).machine (moves_then 0 0 m n (lost e.facts n).machine goes (grind (arith, fails, moves_nothing n goes.ordered))) (lost-ties m e k h s)
 
 -- a cause for which a peer fails
 abbrev pub IsLost : CloseCause → Type 0
@@ -95,15 +75,12 @@ IsLost cause = lost_by cause ≡ lost
 
 pub ending-keeps : (cause : CloseCause) → IsLost cause → (m : Machine) (e : Entry) (k : ℕ) → IsOrdered m → StandsAt m.connections k e →
     Keeps 0 m (ending cause e m).machine
-ending-keeps cause loses m e k h s =
-    subst (λ act. Keeps 0 m (act e.facts (without_entry e.facts.cid.0 m)).machine) (sym loses) (gone_lost-keeps m e k h s)
+ending-keeps cause loses m e k h s = grind (arith, gone_lost-keeps)
 
 -- one that gives way to another
 pub overwritten-keeps : (m : Machine) (e : Entry) (k : ℕ) → IsOrdered m → StandsAt m.connections k e → is_pending e.facts ≡ true →
     Keeps 0 m (ending Overwritten e m).machine
-overwritten-keeps m e k h s pending =
-    moves-keeps 0 m (ending Overwritten e m).machine (goes-moves m e k h s)
-    (gone-ties m e k h.orderly s (λ live. ((stands-shaped m e k h s).unused (pending-unnegotiated e.facts pending)).local))
+overwritten-keeps m e k h s pending = grind (arith, moves-keeps, goes-moves, gone-ties, stands-shaped, pending-unnegotiated)
 
 pub vanishes-keeps : (m : Machine) (e : Entry) (k : ℕ) → IsOrdered m → StandsAt m.connections k e →
     Keeps 0 m (vanishes e m).machine
@@ -119,25 +96,12 @@ pub record IsAlike (old new : Entry) : Type 0 where
   pub asked : is_some (reply_on 2 new) ≡ true → is_some (reply_on 2 old) ≡ true
 
 alike-tied : (now : ℕ) (o : Option Peer) (old new : Entry) → IsAlike old new → TiedBy now o (Some old) → TiedBy now o (Some new)
-alike-tied now None old new a tie = record {
-  unused = a.local ∙ tie.unused;
-  not_dialed = a.pending ∙ tie.not_dialed;
-  not_asked = false_from_ne_true (is_some (reply_on 2 new)) (λ asked. both_ways (is_some (reply_on 2 old)) tie.not_asked (a.asked asked));
-}
-alike-tied now (Some p) old new a tie = record {
-  established = tie.established ∙ sym a.local;
-  in_use = λ local. tie.in_use (sym a.local ∙ local);
-  on_its_way = λ pending. tie.on_its_way (sym a.pending ∙ pending);
-  asked = λ asked. tie.asked (a.asked asked);
-}
+alike-tied now o old new a tie = grind arith
 
 -- one that turns into what is as it was for its peer
 pub alike-keeps : (raised : ℕ) (m : Machine) (e new : Entry) (k : ℕ) → IsOrdered m → StandsAt m.connections k e → TurnsInto e new → IsAlike e new →
     IsShaped new.facts → IsOwing new → counted_of new ≤ counted_of e + raised → late_of m.now new ≤ late_of m.now e → Keeps raised m (with_entry new m)
-alike-keeps raised m e new k h s t a shaped owes more later =
-    moves-keeps raised m (with_entry new m) (turns-moves raised m e new k h s t shaped owes more later)
-    (turned-ties m e new k h.orderly s t
-    (λ live o is tie. subst (λ b. TiedBy m.now o (if b then Some new else None)) (sym (a.live ∙ live)) (alike-tied m.now o e new a tie)))
+alike-keeps raised m e new k h s t a shaped owes more later = grind (arith, turns-moves raised m e new k h s t shaped owes more later, moves-keeps, turned-ties, alike-tied)
 
 pub dialing-live : (p : Phase) → is_dialing_phase p ≡ true → live_phase p ≡ true
 dialing-live Dialing h = refl
@@ -162,15 +126,11 @@ connects-keeps m e k h s dials =
     let until : ℕ = m.now + m.settings.handshake in
     let new : Entry = record e { facts = connected until e.facts } in
     let shape : IsShaped e.facts = stands-shaped m e k h s in
-    let none : counted_of new ≡ 0 = one_if-not_counted new.facts (counted-connected until e.facts (shape.dialing dials)) in
-    let later : phase_late_of m.now new ≡ 0 = phase-ahead m.now until e.facts.cid (ahead m.now m.settings.handshake (handshake-positive m.settings h.orderly.settings)) in
-    let live : is_live e.facts ≡ true = dialing-live e.facts.phase dials in
-    let turns : TurnsInto e new = record { same_id = refl; same_addr = refl; live = λ l. live } in
-    let pending : is_pending e.facts ≡ true = and_from (is_outbound e.facts) (opening_phase e.facts.phase) (shape.dialing dials) (dialing-opening e.facts.phase dials) in
-    let still : is_pending new.facts ≡ true = and_from (is_outbound e.facts) true (shape.dialing dials) refl in
-    alike-keeps 0 m e new k h s turns (record { local = refl; pending = still ∙ sym pending; live = sym live; asked = λ asked. asked })
-    (connected-shaped until e.facts shape dials) (alike-owing e new refl refl refl (stands-owing m e k h s)) (omega arith)
-    (late-fewer m.now e new (omega arith) (omega arith) (omega arith))
+    let none = one_if-not_counted new.facts (counted-connected until e.facts (shape.dialing dials)) in
+    let later = phase-ahead m.now until e.facts.cid (ahead m.now m.settings.handshake (handshake-positive m.settings h.orderly.settings)) in
+    let live = dialing-live e.facts.phase dials in
+    alike-keeps 0 m e new k h s (grind (arith, live)) (grind (arith, dials, live, shape.dialing dials, dialing-opening)) (connected-shaped until e.facts shape dials)
+    (alike-owing e new refl refl refl (stands-owing m e k h s)) (omega (arith, none)) (late-fewer m.now e new (omega (arith, later)) (omega arith) (omega arith))
 
 -- the handshake of a peer that connected is done
 pub agrees_inbound-keeps : (agreed : Agreed) (m : Machine) (e : Entry) (k : ℕ) → IsOrdered m → StandsAt m.connections k e →
@@ -179,17 +139,12 @@ agrees_inbound-keeps agreed m e k h s greets inbound =
     let until : ℕ = m.now + m.settings.idle in
     let new : Entry = record e { facts = agreed_inbound agreed until e.facts } in
     let shape : IsShaped e.facts = stands-shaped m e k h s in
-    let before : counted_of e ≡ 1 = one_if-counted e.facts (counted-greeting e.facts greets inbound) in
-    let after : counted_of new ≤ 1 = at_most_one new.facts in
-    let later : grace_late_of m.now new ≡ 0 = remote-ahead m.now until e.facts.cid (idle-ahead m h) in
-    let live : is_live e.facts ≡ true = greeting-live e.facts.phase greets in
-    let turns : TurnsInto e new = record { same_id = refl; same_addr = refl; live = λ l. live } in
-    let idle : is_pending e.facts ≡ false = ap (λ b. b && opening_phase e.facts.phase) inbound in
-    let still : is_pending new.facts ≡ false = ap (λ b. b && false) inbound in
-    alike-keeps 0 m e new k h s turns (record { local = refl; pending = still ∙ sym idle; live = sym live; asked = λ asked. asked })
-    (agreed_inbound-shaped agreed until e.facts shape greets inbound)
-    (nothing-owing new ((stands-owing m e k h s).used (shape.unused (greeting-unnegotiated e.facts.phase greets)).local)) (omega arith)
-    (late-fewer m.now e new (omega arith) (omega arith) (omega arith))
+    let counted = one_if-counted e.facts (counted-greeting e.facts greets inbound) in
+    let later = remote-ahead m.now until e.facts.cid (idle-ahead m h) in
+    let live = greeting-live e.facts.phase greets in
+    alike-keeps 0 m e new k h s (grind (arith, live)) (grind (arith, inbound, live)) (agreed_inbound-shaped agreed until e.facts shape greets inbound)
+    (nothing-owing new ((stands-owing m e k h s).used (shape.unused (greeting-unnegotiated e.facts.phase greets)).local)) (omega (arith, counted, at_most_one new.facts))
+    (late-fewer m.now e new (omega arith) (omega (arith, later)) (omega arith))
 
 -- a connection comes into use, with facts that are in shape and raise nothing
 record Uses (m : Machine) (e : Entry) (f : Facts) : Type 0 where
@@ -213,11 +168,10 @@ used-keeps f m e k h s u =
     let owed : owed_late m.now f.cid new.owed ≤ owed_late m.now f.cid e.owed =
     owing-fewer m.now f.cid (record { protocol = 8; until = m.now + m.settings.reply; asked = cookie }) e.owed (reply-ahead m h) in
     let same : owed_late m.now f.cid e.owed ≡ owed_late m.now e.facts.cid e.owed = ap (λ c. owed_late m.now c e.owed) u.cid in
-    let fewer = u.fewer in
     let turns : TurnsInto e new = record { same_id = u.cid; same_addr = u.addr; live = λ l. u.was_live } in
     let turned : Moves 0 m n = turns-moves 0 m e new k h s turns u.shaped
     (owing-owing 8 cookie m (record e { facts = f }) refl u.local (λ on_10. absurd (false≢true on_10))
-    (nothing-owing (record e { facts = f }) ((stands-owing m e k h s).used u.unused))) (omega (arith, fewer))
+    (nothing-owing (record e { facts = f }) ((stands-owing m e k h s).used u.unused))) (let fewer = u.fewer in omega (arith, fewer))
     (late-fewer m.now e new u.phase u.grace (omega (arith, owed, same))) in
     let warm : Peer → Peer = λ p. record p { temp = Warm; failures = 0 } in
     let here : live_entry_at e.facts.addr n ≡ Some new =
@@ -227,32 +181,13 @@ used-keeps f m e k h s u =
     (moves-keeps 0 m (peer_succeeds e.facts.addr n).machine
     (moves_then 0 0 m n (peer_succeeds e.facts.addr n).machine turned (changes-moves e.facts.addr warm n (λ p. refl) (λ p ordinary. ordinary) turned.ordered))
     (changed-ties e.facts.addr warm m n (λ p. refl) refl refl (turned_elsewhere m e new k h.orderly s turns)
-    (λ none alone. absurd (u.ready None none (subst (λ o. TiedBy m.now None o) was alone)))
-    (λ p found tie. subst (λ o. TiedBy m.now (Some (warm p)) o) (sym here)
-    (in_use new p u.local (u.ready (Some p) found (subst (λ o. TiedBy m.now (Some p) o) was tie))))))
-  where
-    in_use : (new : Entry) (p : Peer) → new.facts.local ≡ true → p.not_before ≤ m.now → AreTied m.now (record p { temp = Warm; failures = 0 }) new
-    in_use new p local ready = record { established = sym local; in_use = λ l. ready; on_its_way = λ w. ready; asked = λ a. refl }
+    (λ none alone. grind (arith, was, alone, u.ready None)) (λ p found tie. grind (arith, here, was, tie, u.local, u.ready (Some p) found))))
 
 -- this node takes a connection that stands into use
 pub acquire-keeps : (m : Machine) (e : Entry) (k : ℕ) → IsOrdered m → StandsAt m.connections k e → is_acquirable e.facts ≡ true →
     IsReady m.now (peer_at e.facts.addr m) → Keeps 0 m (acquire e m).machine
-acquire-keeps m e k h s may ready =
-    let shape : IsShaped e.facts = stands-shaped m e k h s in
-    let live : is_live e.facts ≡ true = negotiated-live e.facts.phase (can_acquire e.facts may).negotiated in
-    used-keeps (acquired e.facts) m e k h s (record {
-      cid = refl;
-      addr = refl;
-      was_live = live;
-      unused = (can_acquire e.facts may).idle;
-      live = live;
-      local = refl;
-      shaped = acquired-shaped e.facts shape may;
-      fewer = fewer-acquired e.facts;
-      phase = omega arith;
-      grace = omega arith;
-      ready = λ o is tie. subst (IsReady m.now) is ready;
-    })
+acquire-keeps m e k h s may ready = used-keeps (acquired e.facts) m e k h s
+    (grind (arith, can_acquire e.facts may, negotiated-live e.facts.phase, acquired-shaped e.facts (stands-shaped m e k h s) may, fewer-acquired e.facts, ready))
 
 pub greeting-opening : (p : Phase) → is_greeting_phase p ≡ true → opening_phase p ≡ true
 greeting-opening (Greeting until) h = refl
@@ -266,9 +201,8 @@ agrees_outbound-keeps agreed m e k h s greets outbound =
     let f : Facts = agreed_outbound agreed until e.facts in
     let shape : IsShaped e.facts = stands-shaped m e k h s in
     let unused : IsUnused e.facts = shape.unused (greeting-unnegotiated e.facts.phase greets) in
-    let none : one_if_counted f ≡ 0 = one_if-not_counted f (counted-agreed_outbound agreed until e.facts outbound unused.running) in
-    let later : grace_late_of m.now (record e { facts = f }) ≤ 0 =
-    grace-fewer m.now e.facts.cid agreed.initiator_only Off (ForRemote until) (remote-ahead m.now until e.facts.cid (idle-ahead m h)) in
+    let none = one_if-not_counted f (counted-agreed_outbound agreed until e.facts outbound unused.running) in
+    let later = grace-fewer m.now e.facts.cid agreed.initiator_only Off (ForRemote until) (remote-ahead m.now until e.facts.cid (idle-ahead m h)) in
     let live : is_live e.facts ≡ true = greeting-live e.facts.phase greets in
     let pending : is_pending e.facts ≡ true = and_from (is_outbound e.facts) (opening_phase e.facts.phase) outbound (greeting-opening e.facts.phase greets) in
     used-keeps f m e k h s (record {
@@ -279,15 +213,11 @@ agrees_outbound-keeps agreed m e k h s greets outbound =
       live = refl;
       local = refl;
       shaped = agreed_outbound-shaped agreed until e.facts shape greets outbound;
-      fewer = omega arith;
+      fewer = omega (arith, none);
       phase = omega arith;
-      grace = omega arith;
-      ready = λ o is tie. on_its_way pending o tie;
+      grace = omega (arith, later);
+      ready = λ o is tie. grind (arith, tie, pending);
     })
-  where
-    on_its_way : is_pending e.facts ≡ true → (o : Option Peer) → TiedBy m.now o (Some e) → IsReady m.now o
-    on_its_way pending None tie = absurd (both_ways (is_pending e.facts) tie.not_dialed pending)
-    on_its_way pending (Some p) tie = tie.on_its_way pending
 
 -- a responder starts: one connection more may be counted
 pub awakes-keeps : (protocol : ℕ) (m : Machine) (e : Entry) (k : ℕ) → IsOrdered m → StandsAt m.connections k e →
@@ -307,13 +237,11 @@ idles-keeps protocol m e k h s runs =
     let until : ℕ = m.now + m.settings.idle in
     let new : Entry = record e { facts = idled protocol until e.facts } in
     let shape : IsShaped e.facts = stands-shaped m e k h s in
-    let before : counted_of e ≡ 1 = one_if-counted e.facts (counted-running e.facts (running-negotiated e.facts shape runs) runs) in
-    let after : counted_of new ≤ 1 = at_most_one new.facts in
-    let grace : grace_late_of m.now new ≤ grace_late_of m.now e =
-    grace-fewer m.now e.facts.cid (some_runs new.facts.running) e.facts.grace (ForRemote until) (remote-ahead m.now until e.facts.cid (idle-ahead m h)) in
-    alike-keeps 0 m e new k h s (record { same_id = refl; same_addr = refl; live = λ l. l }) (record { local = refl; pending = refl; live = refl; asked = λ asked. asked })
-    (idled-shaped protocol until e.facts shape runs) (alike-owing e new refl refl refl (stands-owing m e k h s)) (omega arith)
-    (late-fewer m.now e new (omega arith) grace (omega arith))
+    let before = one_if-counted e.facts (counted-running e.facts (running-negotiated e.facts shape runs) runs) in
+    let grace = grace-fewer m.now e.facts.cid (some_runs new.facts.running) e.facts.grace (ForRemote until) (remote-ahead m.now until e.facts.cid (idle-ahead m h)) in
+    alike-keeps 0 m e new k h s (grind arith) (grind arith) (idled-shaped protocol until e.facts shape runs)
+    (alike-owing e new refl refl refl (stands-owing m e k h s)) (omega (arith, before, at_most_one new.facts))
+    (late-fewer m.now e new (omega arith) (omega (arith, grace)) (omega arith))
 
 -- this node gives a connection out of its use, where nothing is owed: one more may be counted
 pub releases-moves : (m : Machine) (e : Entry) (k : ℕ) → IsOrdered m → StandsAt m.connections k e → e.facts.local ≡ true → OwesNothing e →
@@ -321,14 +249,11 @@ pub releases-moves : (m : Machine) (e : Entry) (k : ℕ) → IsOrdered m → Sta
 releases-moves m e k h s local owes =
     let until : ℕ = m.now + m.settings.idle in
     let new : Entry = record e { facts = released until e.facts } in
-    let after : counted_of new ≤ 1 = at_most_one new.facts in
-    let grace : grace_late_of m.now new ≤ grace_late_of m.now e =
-    grace-fewer m.now e.facts.cid (some_runs e.facts.running || is_for_remote e.facts.grace) e.facts.grace (ForLocal until)
+    let grace = grace-fewer m.now e.facts.cid (some_runs e.facts.running || is_for_remote e.facts.grace) e.facts.grace (ForLocal until)
     (local-ahead m.now until e.facts.cid (idle-ahead m h)) in
-    turns-moves 1 m e new k h s (record { same_id = refl; same_addr = refl; live = λ l. l })
-    (released-shaped until e.facts (stands-shaped m e k h s) local)
-    (nothing-owing new (nothing_owed e (stands-owing m e k h s) owes)) (omega arith)
-    (late-fewer m.now e new (omega arith) grace (omega arith))
+    turns-moves 1 m e new k h s (grind arith) (released-shaped until e.facts (stands-shaped m e k h s) local)
+    (nothing-owing new (nothing_owed e (stands-owing m e k h s) owes)) (omega (arith, at_most_one new.facts))
+    (late-fewer m.now e new (omega arith) (omega (arith, grace)) (omega arith))
 
 -- a reply is paid
 pub pays-keeps : (protocol : ℕ) (m : Machine) (e : Entry) (k : ℕ) → IsOrdered m → StandsAt m.connections k e →
@@ -358,9 +283,7 @@ owes-moves protocol asked m e k h s may =
 owed-keeps : (protocol asked : ℕ) (m : Machine) (e : Entry) (k : ℕ) → IsOrdered m → StandsAt m.connections k e → MayOwe protocol e →
     ((o : Option Peer) → peer_at e.facts.addr m ≡ o → TiedBy m.now o (Some e) → TiedBy m.now o (Some (owing protocol asked m e))) →
     Keeps 0 m (with_entry (owing protocol asked m e) m)
-owed-keeps protocol asked m e k h s may tied =
-    moves-keeps 0 m (with_entry (owing protocol asked m e) m) (owes-moves protocol asked m e k h s may)
-    (turned-ties m e (owing protocol asked m e) k h.orderly s (record { same_id = refl; same_addr = refl; live = λ l. l }) (λ live o is tie. rw live (tied o is tie)))
+owed-keeps protocol asked m e k h s may tied = grind (arith, owes-moves protocol asked m e k h s may, moves-keeps, turned-ties)
 
 -- but on chain-sync
 pub owes-keeps : (protocol asked : ℕ) (m : Machine) (e : Entry) (k : ℕ) → IsOrdered m → StandsAt m.connections k e → MayOwe protocol e → (protocol == 2) ≡ false →
@@ -381,12 +304,7 @@ IsWarm (Some p) = p.temp ≡ Warm
 pub asks_warm-keeps : (asked : ℕ) (m : Machine) (e : Entry) (k : ℕ) → IsOrdered m → StandsAt m.connections k e → e.facts.local ≡ true →
     IsWarm (peer_at e.facts.addr m) → Keeps 0 m (with_entry (owing 2 asked m e) m)
 asks_warm-keeps asked m e k h s local warm =
-    owed-keeps 2 asked m e k h s (record { known = refl; local = local; sharing = λ on_10. absurd (false≢true on_10) })
-    (λ o is tie. by_peer o (subst IsWarm is warm) tie)
-  where
-    by_peer : (o : Option Peer) → IsWarm o → TiedBy m.now o (Some e) → TiedBy m.now o (Some (owing 2 asked m e))
-    by_peer None warm tie = elim warm [ ]
-    by_peer (Some p) warm tie = record { established = tie.established; in_use = tie.in_use; on_its_way = tie.on_its_way; asked = λ a. warm }
+    owed-keeps 2 asked m e k h s (record { known = refl; local = local; sharing = λ on_10. absurd (false≢true on_10) }) (λ o is tie. grind (arith, is, warm, tie))
 
 -- what is not decoded is no matter of the counts
 pub decodes-keeps : (undecoded : Undecoded) (m : Machine) (e : Entry) (k : ℕ) → IsOrdered m → StandsAt m.connections k e →

@@ -1,9 +1,10 @@
--- What an act does by its kind: an order of the governor, what changes the book, when accepting pauses, and what is set.
+-- What an act does by its kind: an order of the governor, what changes the book, who becomes hot and who cools, when accepting pauses, and what is set.
 use Rattle.std.specs.Prelude.{ℕ, ◌+◌, ◌≡◌, Bool, true, false, not, ◌&&◌, ◌||◌, nat_lt, List, [], ◌∷◌, All, is_some, ◌==◌, if◌then◌else◌, Option, Some, None}
 use Rattle.laws.specs.Words.{flat_map, pause_of, is_acquirable, is_greeting, is_live, is_live_at, same_address, Order, Ask, Forget, Promote, Release, Activate, Deactivate, Action, Pause, Addr, Peer, Temp, Cold, Warm, Hot, Item, is_negotiated, Effect, Happened, promoted, activated, Machine, Entry, counted_in, entry_at, live_entry_at, peer_at}
 use Rattle.laws.specs.Acts.{Act, shows, asks_for_roots, carries, connects, stores, handles_item, is_closed, sets_targets, sets_big_targets, sets_groups, sets_roots, makes_ordinary, provides_big}
 use Rattle.laws.specs.RootsAsked.{are_roots_wanted, roots_asked}
 use Rattle.laws.specs.AtMoves.{is_missed, FailsWhere, OnEntry, is_known}
+use Rattle.laws.specs.BackOff.{WhereBoth, has_lost}
 
 -- An order that promotes or activates is that one move, between the record before it and the one after it.
 abbrev pub IsOneMove : Happened → Machine → Effect → Type 0
@@ -118,6 +119,31 @@ abbrev pub HeatsUp : Act → Machine → Machine → Type 0
 HeatsUp (handles_item own item) before after =
     WhereAnswered item (entry_at own.0 before) (λ e. is_some (entry_at own.0 after) ≡ true → OnPeer (peer_at e.facts.addr after) (λ p. p.temp ≡ Hot))
 HeatsUp other before after = Unit {0}
+
+-- ---- who cools
+
+-- One that is warm or hot becomes cold only where it may, and one that is hot becomes warm only where it may rest.
+abbrev pub IsCooledBy : Bool → Bool → Temp → Temp → Type 0
+IsCooledBy may may_rest Warm Cold = may ≡ true
+IsCooledBy may may_rest Hot Cold = may ≡ true
+IsCooledBy may may_rest Hot Warm = may_rest ≡ true
+IsCooledBy may may_rest before after = Unit {0}
+
+-- an order releases it
+abbrev pub releases : Act → Addr → Bool
+releases (carries (Release addr)) other = same_address other addr
+releases act other = false
+
+-- an order deactivates it
+abbrev pub deactivates : Act → Addr → Bool
+deactivates (carries (Deactivate addr)) other = same_address other addr
+deactivates act other = false
+
+-- Whoever is in use becomes cold only where an order releases it or its connection has gone, and one that is hot becomes warm only
+-- where an order deactivates it.
+abbrev pub CoolsOnly : Act → Machine → Machine → Type 0
+CoolsOnly act before after = (addr : Addr) →
+    WhereBoth (λ p q. IsCooledBy (releases act addr || has_lost addr before after) (deactivates act addr) p.temp q.temp) (peer_at addr before) (peer_at addr after)
 
 -- ---- the pause
 

@@ -12,7 +12,7 @@ use Rattle.laws.specs.Sends.{SendsRight, Speaks}
 use Rattle.laws.specs.Served.{AnswersRight}
 use Rattle.laws.specs.Acts.{Act, fires_one, carries, does, acts, Part, effect_of, parts_of}
 use Rattle.laws.specs.AtMoves.{is_closed_by, is_negotiated_at, is_up, is_hot_or_asked, is_known, promotes, activates, is_shared_in, is_provided_by, MovesAreLawful}
-use Rattle.laws.specs.CarriedOut.{IsDoneByOrder, TreatsBook, KeepsClass, KeepsKnown, HeatsUp, Forgives, PausesRight, IsSet}
+use Rattle.laws.specs.CarriedOut.{IsDoneByOrder, TreatsBook, KeepsClass, KeepsKnown, HeatsUp, CoolsOnly, Forgives, PausesRight, IsSet}
 use Rattle.laws.specs.Ends.{ends_due, but_pruned, pruned_in, IsPrunedIn}
 use Rattle.laws.specs.Stages.{causes_in, IsLateCause}
 use Rattle.laws.specs.Telling.{IsTold}
@@ -88,6 +88,8 @@ pub record IsLawfulPart (event : Event) (part : Part) : Type 0 where
   pub known : KeepsKnown part.act part.before (effect_of part).machine
   -- whoever answers where the chains meet is hot
   pub heats : HeatsUp part.act part.before (effect_of part).machine
+  -- a peer in use cools only by a release, a deactivation or the loss of its connection
+  pub cools : CoolsOnly part.act part.before (effect_of part).machine
   -- a peer that comes into use by it has no failures
   pub forgiven : Forgives part.act part.before (effect_of part).machine
   -- accepting pauses where it must, for how long it must, and nowhere else
