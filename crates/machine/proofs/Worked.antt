@@ -51,7 +51,6 @@ all_run = record {
     accepting_goes_on_where_somebody_goes_runs = refl;
     asked_only_where_agreed_runs = refl;
     promoted_after_the_lowered_target_runs = refl;
-    who_moved_goes_runs = refl;
   };
   handshakes = record {
     inbound_duplex_accept_runs = refl;

@@ -1,7 +1,7 @@
 -- Traces in which a law matters that no other one asks for.
 use Rattle.std.specs.Prelude.{[], ◌∷◌, true, false, codes}
 use Rattle.net_base.specs.declared.action.Action.TheVariants.{Admit, Dial, Send, AskRoots, Close, State, Peer, Pause}
-use Rattle.net_base.specs.declared.action.CloseCause.TheVariants.{Pruned, Fault}
+use Rattle.net_base.specs.declared.action.CloseCause.TheVariants.{Fault}
 use Rattle.net_base.specs.declared.action.FaultKind.TheVariants.{ReplyWait, UnknownId}
 use Rattle.net_base.specs.declared.action.PeerNote.TheVariants as note
 use Rattle.net_base.specs.declared.action.StateName.TheVariants as state
@@ -220,48 +220,5 @@ promoted_after_the_lowered_target = record {
       ∷ brings (Govern 0) []
       ∷ brings (Now 3240000) []
       ∷ brings (Govern 0) (Dial (cid 1) (node 3002) ∷ State (cid 1) state.ReservedOutbound ∷ [])
-      ∷ [];
-}
-
--- where all that are counted are in local use, the one that was woken goes
-abbrev pub who_moved_goes : Trace
-who_moved_goes = record {
-  settings = record usual { hard = 1; soft = 1 };
-  happenings =
-      brings (Locals (group 0 2 true (node 3002 ∷ node 3003 ∷ []) ∷ [])) (Peer (node 3002) note.Known ∷ Peer (node 3003) note.Known ∷ [])
-      ∷ brings (Govern 0) (
-      Dial (cid 1) (node 3002)
-      ∷ State (cid 1) state.ReservedOutbound
-      ∷ Dial (cid 2) (node 3003)
-      ∷ State (cid 2) state.ReservedOutbound
-      ∷ [])
-      ∷ brings (Dialed (cid 1) true) (
-      State (cid 1) state.UnnegotiatedOutbound
-      ∷ Send (cid 1) (bytes_of (codes "00000000000000118200a20d84182af401f40e84182af401f4"))
-      ∷ [])
-      ∷ brings (Dialed (cid 2) true) (
-      State (cid 2) state.UnnegotiatedOutbound
-      ∷ Send (cid 2) (bytes_of (codes "00000000000000118200a20d84182af401f40e84182af401f4"))
-      ∷ [])
-      ∷ brings (Bytes (cid 1) (bytes_of (codes "000000008000000983010e84182af401f4"))) (
-      State (cid 1) state.OutboundDupTicking
-      ∷ Peer (node 3002) note.Warm
-      ∷ Send (cid 1) (bytes_of (codes "0000000000080003820001"))
-      ∷ [])
-      ∷ brings (Bytes (cid 2) (bytes_of (codes "000000008000000983010e84182af401f4"))) (
-      State (cid 2) state.OutboundDupTicking
-      ∷ Peer (node 3003) note.Warm
-      ∷ Send (cid 2) (bytes_of (codes "0000000000080003820002"))
-      ∷ [])
-      ∷ brings (Bytes (cid 1) (bytes_of (codes "0000000000080003820007"))) (
-      State (cid 1) state.Duplex
-      ∷ Send (cid 1) (bytes_of (codes "0000000080080003820107"))
-      ∷ [])
-      ∷ brings (Bytes (cid 2) (bytes_of (codes "0000000000080003820007"))) (
-      State (cid 2) state.Duplex
-      ∷ Close (cid 2) Pruned
-      ∷ State (cid 2) state.Terminated
-      ∷ Peer (node 3003) note.Cold
-      ∷ [])
       ∷ [];
 }

@@ -10,7 +10,7 @@ use Rattle.machine.specs.SharingTraces.{share_answer_adds_peer, told_peer_is_dia
 use Rattle.machine.specs.BigPeerTraces.{big_fewer_failures_first, big_made_ordinary_by_locals, big_counted_apart, big_forgotten_apart}
 use Rattle.machine.specs.DistinctTraces.{pause_grows, inbound_waits, dial_answered_again, dialer_on_other_sides, inbound_unidirectional_served, reply_wait_and_back_off, release_trims, overwritten_is_no_failure}
 use Rattle.machine.specs.LastingTraces.{public_roots_stay, dialed_after_the_time_wait, turned_away_for_the_first_cause, one_grace_goes_on, greeting_closed_ends_once, asked_once, released_once_it_has_answered, let_in_beside_a_time_wait, closed_in_its_time_wait, halves_on_two_connections, one_answer_leaves_the_other_wait, unused_end_is_no_failure}
-use Rattle.machine.specs.LawTraces.{share_answer_is_late, provider_is_left_alone, one_protocol_is_done, sharing_is_turned_off, private_group_is_not_told, public_root_is_not_told, back_off_outlives_the_groups, own_address_is_no_peer, answer_is_no_failure, accepting_goes_on_where_somebody_goes, asked_only_where_agreed, promoted_after_the_lowered_target, who_moved_goes}
+use Rattle.machine.specs.LawTraces.{share_answer_is_late, provider_is_left_alone, one_protocol_is_done, sharing_is_turned_off, private_group_is_not_told, public_root_is_not_told, back_off_outlives_the_groups, own_address_is_no_peer, answer_is_no_failure, accepting_goes_on_where_somebody_goes, asked_only_where_agreed, promoted_after_the_lowered_target}
 use Rattle.machine.specs.DistinctPeerTraces.{success_forgets_failures, asked_again_after_the_gap, roots_up_to_their_target, big_targets_lowered, bigs_below_the_lowered_target, answer_below_the_lowered_target}
 
 pub record HandshakesRun : Type 0 where
@@ -133,7 +133,6 @@ pub record LawsRun : Type 0 where
   pub accepting_goes_on_where_somebody_goes_runs : IsRun accepting_goes_on_where_somebody_goes
   pub asked_only_where_agreed_runs : IsRun asked_only_where_agreed
   pub promoted_after_the_lowered_target_runs : IsRun promoted_after_the_lowered_target
-  pub who_moved_goes_runs : IsRun who_moved_goes
 
 pub record AllRun : Type 0 where
   pub lasting : LastingRun
