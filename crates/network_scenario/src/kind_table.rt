@@ -1,19 +1,60 @@
-use crate::values::{as_table, check_names, flag_or, tables_at, whole_of, whole_or, wrong};
-use crate::{Due, Friends, Kind, Name, Role, ScenarioRefusal};
+use crate::values::{Row, as_table, flag, number, numbers, text_at};
+use crate::{Due, Friends, Kind, Role, ScenarioRefusal};
 use net_base::{Addr, Ip, OutOfMemory, Settings, Targets};
 use std::alloc::Global;
 use toml::{Table, Value};
 
+const DAY: u64 = 86_400_000;
+
+const NAMES: &str = "name role count within hidden public tick holds root known established active \
+    friends friends_of friends_hot friends_warm friends_told hard soft delay idle timewait handshake \
+    reply backoff sharegap shares sharing initiatoronly";
+
 const NODES_MOST: u64 = 100_000;
 
-const DAY: u64 = 86_400_000;
+const COUNT: Row = Row("count", 0, NODES_MOST);
+
+const WITHIN: Row = Row("within", 1, DAY);
+
+const HABITS: [Row; 3] = [
+    Row("public", 0, NODES_MOST),
+    Row("tick", 1, DAY),
+    Row("holds", 0, 10_000),
+];
+
+const HARD: Row = Row("hard", 0, 10_000);
+
+// The bounds of each are tested with all of them.
+const SETTINGS: [Row; 11] = [
+    Row("soft", 0, 10_000),
+    Row("delay", 0, DAY),
+    Row("idle", 0, DAY),
+    Row("timewait", 0, DAY),
+    Row("handshake", 0, DAY),
+    Row("reply", 0, DAY),
+    Row("backoff", 0, DAY),
+    Row("sharegap", 0, DAY),
+    Row("shares", 0, DAY),
+    Row("sharing", 0, DAY),
+    Row("initiatoronly", 0, DAY),
+];
+
+const TARGETS: [Row; 4] = [
+    Row("root", 0, 10_000),
+    Row("known", 0, 10_000),
+    Row("established", 0, 10_000),
+    Row("active", 0, 10_000),
+];
+
+const FRIENDS: Row = Row("friends", 0, 100);
+
+const VALENCIES: [Row; 2] = [Row("friends_hot", 0, 100), Row("friends_warm", 0, 100)];
 
 pub(crate) fn read_kinds(
     alloc: Global,
-    table: &Table,
+    values: &[Value],
     kinds: &mut Vec<Kind>,
 ) -> Result<(), ScenarioRefusal> {
-    let values = tables_at(table, Name::Kind)?;
     for value in values {
         let kind = read_kind(alloc, value, values)?;
         keep(kinds, kind)?;
@@ -27,19 +68,18 @@ fn keep(kinds: &mut Vec<Kind>, kind: Kind) -> Result<(), OutOfMemory> {
 }
 
 fn read_kind(alloc: Global, value: &Value, all: &[Value]) -> Result<Kind, ScenarioRefusal> {
-    let table = as_table(value, Name::Kind)?;
-    check_kind(table)?;
-    let name = read_name(table)?;
+    let table = as_table(value, "kind", NAMES)?;
+    let Some(name) = text_at(table, "name") else {
+        return Err(ScenarioRefusal::Wrong("name", Due::Said("a text")));
+    };
     let settings = read_settings(table)?;
     let targets = read_targets(table)?;
     let friends = read_friends(table, all)?;
-    let count = whole_of(table, Name::Count, 0, NODES_MOST)?;
+    let count = number(Some(table), &COUNT, None)?;
     let role = read_role(table)?;
-    let within = whole_or(table, Name::Within, 1, DAY, 10_000)?;
-    let hidden = flag_or(table, Name::Hidden, false)?;
-    let public = whole_or(table, Name::Public, 0, NODES_MOST, 0)?;
-    let tick = whole_or(table, Name::Tick, 1, DAY, 1_000)?;
-    let holds = whole_or(table, Name::Holds, 0, 10_000, 0)?;
+    let within = number(Some(table), &WITHIN, Some(10_000))?;
+    let hidden = flag(table, "hidden", false)?;
+    let [public, tick, holds] = numbers(Some(table), &HABITS, [0, 1_000, 0])?;
     // The name comes last, so that nothing is owned where a number is refused.
     let name = owned(alloc, name)?;
     Ok(Kind {
@@ -57,69 +97,19 @@ fn read_kind(alloc: Global, value: &Value, all: &[Value]) -> Result<Kind, Scenar
     })
 }
 
-fn check_kind(table: &Table) -> Result<(), ScenarioRefusal> {
-    let names = [
-        Name::Title,
-        Name::Role,
-        Name::Count,
-        Name::Within,
-        Name::Hidden,
-        Name::Public,
-        Name::Tick,
-        Name::Holds,
-        Name::Root,
-        Name::Known,
-        Name::Established,
-        Name::Active,
-        Name::Friends,
-        Name::FriendsOf,
-        Name::FriendsHot,
-        Name::FriendsWarm,
-        Name::FriendsTold,
-        Name::Hard,
-        Name::Soft,
-        Name::Delay,
-        Name::Idle,
-        Name::Timewait,
-        Name::Handshake,
-        Name::Reply,
-        Name::Backoff,
-        Name::Sharegap,
-        Name::Shares,
-        Name::Sharing,
-        Name::InitiatorOnly,
-    ];
-    check_names(table, Name::Kind, &names)
-}
-
-fn read_name(table: &Table) -> Result<&str, ScenarioRefusal> {
-    match name_in(table) {
-        Some(text) => Ok(text),
-        None => Err(wrong(Name::Title, Due::Text)),
-    }
-}
-
-fn owned(alloc: Global, text: &str) -> Result<String, ScenarioRefusal> {
-    match String::from_str(alloc, text) {
-        Ok(text) => Ok(text),
-        Err(_) => Err(ScenarioRefusal::OutOfMemory),
-    }
-}
-
-fn name_in(table: &Table) -> Option<&str> {
-    let value = table.get(Name::Title.text())?;
-    value.as_str()
+fn owned(alloc: Global, text: &str) -> Result<String, OutOfMemory> {
+    Ok(String::from_str(alloc, text)?)
 }
 
 fn read_role(table: &Table) -> Result<Role, ScenarioRefusal> {
-    let Some(value) = table.get(Name::Role.text()) else {
+    if table.get("role").is_none() {
         return Ok(Role::Honest);
-    };
-    match value.as_str() {
+    }
+    match text_at(table, "role") {
         Some("honest") => Ok(Role::Honest),
         Some("answering") => Ok(Role::Answering),
         Some("silent") => Ok(Role::Silent),
-        _ => Err(wrong(Name::Role, Due::SomeRole)),
+        _ => Err(ScenarioRefusal::Wrong("role", Due::Said("honest, answering or silent"))),
     }
 }
 
@@ -129,10 +119,33 @@ fn read_settings(table: &Table) -> Result<Settings, ScenarioRefusal> {
         port: 3001,
     };
     let usual = Settings::usual(nobody);
-    let hard = whole_or(table, Name::Hard, 0, 10_000, usual.hard)?;
-    let soft = whole_or(table, Name::Soft, 0, 10_000, hard.min(384))?;
-    let [delay, idle, timewait, handshake, reply] = read_times(table, &usual)?;
-    let [backoff, sharegap, shares, sharing, initiator_only] = read_shares(table, &usual)?;
+    let hard = number(Some(table), &HARD, Some(usual.hard))?;
+    let usual_numbers = [
+        hard.min(384),
+        usual.delay,
+        usual.idle,
+        usual.timewait,
+        usual.handshake,
+        usual.reply,
+        usual.backoff,
+        usual.sharegap,
+        usual.shares,
+        usual.sharing,
+        usual.initiator_only,
+    ];
+    let [
+        soft,
+        delay,
+        idle,
+        timewait,
+        handshake,
+        reply,
+        backoff,
+        sharegap,
+        shares,
+        sharing,
+        initiator_only,
+    ] = numbers(Some(table), &SETTINGS, usual_numbers)?;
     let settings = Settings {
         hard,
         soft,
@@ -150,91 +163,60 @@ fn read_settings(table: &Table) -> Result<Settings, ScenarioRefusal> {
     };
     match settings.check() {
         None => Ok(settings),
-        Some(field) => Err(wrong(Name::Kind, Due::Bounded(field))),
-    }
-}
-
-fn read_times(table: &Table, usual: &Settings) -> Result<[u64; 5], ScenarioRefusal> {
-    Ok([
-        interval(table, Name::Delay, usual.delay)?,
-        interval(table, Name::Idle, usual.idle)?,
-        interval(table, Name::Timewait, usual.timewait)?,
-        interval(table, Name::Handshake, usual.handshake)?,
-        interval(table, Name::Reply, usual.reply)?,
-    ])
-}
-
-fn read_shares(table: &Table, usual: &Settings) -> Result<[u64; 5], ScenarioRefusal> {
-    Ok([
-        interval(table, Name::Backoff, usual.backoff)?,
-        interval(table, Name::Sharegap, usual.sharegap)?,
-        interval(table, Name::Shares, usual.shares)?,
-        interval(table, Name::Sharing, usual.sharing)?,
-        interval(table, Name::InitiatorOnly, usual.initiator_only)?,
-    ])
-}
-
-// The bounds of each are tested with all of them.
-fn interval(table: &Table, name: Name, usual: u64) -> Result<u64, ScenarioRefusal> {
-    match table.get(name.text()) {
-        None => Ok(usual),
-        Some(_) => whole_of(table, name, 0, DAY),
+        Some(field) => Err(ScenarioRefusal::Wrong("kind", Due::Bounded(field))),
     }
 }
 
 fn read_targets(table: &Table) -> Result<Targets, ScenarioRefusal> {
+    let [root, known, established, active] = numbers(Some(table), &TARGETS, [10, 20, 10, 5])?;
     let targets = Targets {
-        root: whole_or(table, Name::Root, 0, 10_000, 10)?,
-        known: whole_or(table, Name::Known, 0, 10_000, 20)?,
-        established: whole_or(table, Name::Established, 0, 10_000, 10)?,
-        active: whole_or(table, Name::Active, 0, 10_000, 5)?,
+        root,
+        known,
+        established,
+        active,
     };
     match targets.check() {
         None => Ok(targets),
-        Some(field) => Err(wrong(Name::Kind, Due::Bounded(field))),
+        Some(field) => Err(ScenarioRefusal::Wrong("kind", Due::Bounded(field))),
     }
 }
 
 fn read_friends(table: &Table, all: &[Value]) -> Result<Option<Friends>, ScenarioRefusal> {
-    let count = whole_or(table, Name::Friends, 0, 100, 0)?;
+    let count = number(Some(table), &FRIENDS, Some(0))?;
     if count == 0 {
         return Ok(None);
     }
-    let kind = kind_named(table, Name::FriendsOf, all)?;
+    let kind = kind_named(table, "friends_of", all)?;
+    let [hot, warm] = numbers(Some(table), &VALENCIES, [1, 1])?;
+    let advertise = flag(table, "friends_told", true)?;
     Ok(Some(Friends {
         count,
         kind,
-        hot: whole_or(table, Name::FriendsHot, 0, 100, 1)?,
-        warm: whole_or(table, Name::FriendsWarm, 0, 100, 1)?,
-        advertise: flag_or(table, Name::FriendsTold, true)?,
+        hot,
+        warm,
+        advertise,
     }))
 }
 
 /// The place of the kind whose name stands at a name.
 pub(crate) fn kind_named(
     table: &Table,
-    name: Name,
+    name: &'static str,
     all: &[Value],
 ) -> Result<usize, ScenarioRefusal> {
-    match place_of(table, name, all) {
-        Some(place) => Ok(place),
-        None => Err(wrong(name, Due::SomeKind)),
+    if let Some(title) = text_at(table, name) {
+        for (place, kind) in all.iter().enumerate() {
+            if is_named(kind, title) {
+                return Ok(place);
+            }
+        }
     }
+    Err(ScenarioRefusal::Wrong(name, Due::Said("the name of a kind")))
 }
 
-fn place_of(table: &Table, name: Name, all: &[Value]) -> Option<usize> {
-    let value = table.get(name.text())?;
-    let name = value.as_str()?;
-    all.iter().position(|kind| is_named(kind, name))
-}
-
-fn is_named(kind: &Value, name: &str) -> bool {
-    match title_of(kind) {
-        Some(title) => title == name,
+fn is_named(kind: &Value, title: &str) -> bool {
+    match kind.as_table() {
+        Some(table) => text_at(table, "name") == Some(title),
         None => false,
     }
-}
-
-fn title_of(kind: &Value) -> Option<&str> {
-    name_in(kind.as_table()?)
 }

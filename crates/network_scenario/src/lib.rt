@@ -5,7 +5,6 @@ mod kind;
 mod kind_table;
 mod mishap;
 mod mishap_tables;
-mod name;
 mod reading;
 mod refusal;
 mod scenario;
@@ -13,7 +12,6 @@ mod values;
 
 pub use kind::{Friends, Kind, Role};
 pub use mishap::{Apart, Leaving, Parting};
-pub use name::Name;
 pub use reading::read_scenario;
 pub use refusal::{Due, ScenarioRefusal};
 pub use scenario::{Links, Provider, Scenario, Words};

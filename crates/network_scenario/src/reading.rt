@@ -1,14 +1,31 @@
 use crate::kind_table::read_kinds;
 use crate::mishap_tables::{read_leavings, read_partings};
-use crate::values::{check_names, share_or, table_at, whole_of, whole_or, wrong};
-use crate::{Due, Links, Name, Provider, Scenario, ScenarioRefusal, Words};
+use crate::values::{Row, as_table, check_names, number, numbers, share, tables_at, text_at};
+use crate::{Due, Links, Provider, Scenario, ScenarioRefusal, Words};
 use std::alloc::Global;
 use toml::Table;
 
-// A day of seconds, and a minute of milliseconds.
-const SECONDS_MOST: u64 = 86_400;
-
+// A minute and a day, in milliseconds.
 const MINUTE: u64 = 60_000;
+
+const DAY: u64 = 86_400_000;
+
+const NAMES: &str = "seconds words links roots kind parting leaving";
+
+const SECONDS: Row = Row("seconds", 1, 86_400);
+
+const LINK_NAMES: &str = "latency_least latency_most lost late again cut wait";
+
+const LATENCIES: [Row; 2] = [
+    Row("latency_least", 1, MINUTE),
+    Row("latency_most", 1, MINUTE),
+];
+
+const AGAIN: Row = Row("again", 1, MINUTE);
+
+const WAIT: Row = Row("wait", 1, MINUTE);
+
+const ROOTS: [Row; 2] = [Row("told", 0, 10_000), Row("serves", 1, DAY)];
 
 /// Reads a scenario file: a TOML table, as docs/NETWORK.md has it. The first value that is wrong is told, with what was
 /// due in its place.
@@ -21,17 +38,8 @@ pub fn read_scenario(alloc: Global, bytes: &[u8]) -> Result<Scenario, ScenarioRe
 }
 
 fn read_table(alloc: Global, table: &Table) -> Result<Scenario, ScenarioRefusal> {
-    let names = [
-        Name::Seconds,
-        Name::Words,
-        Name::Links,
-        Name::Roots,
-        Name::Kind,
-        Name::Parting,
-        Name::Leaving,
-    ];
-    check_names(table, Name::Scenario, &names)?;
-    let seconds = whole_of(table, Name::Seconds, 1, SECONDS_MOST)?;
+    check_names(table, "the file", NAMES)?;
+    let seconds = number(Some(table), &SECONDS, None)?;
     let words = read_words(table)?;
     let links = read_links(table)?;
     let provider = read_provider(table)?;
@@ -53,81 +61,56 @@ fn read_lists(
     table: &Table,
     scenario: &mut Scenario,
 ) -> Result<(), ScenarioRefusal> {
-    read_kinds(alloc, table, &mut scenario.kinds)?;
-    read_partings(table, &mut scenario.partings)?;
-    read_leavings(table, &mut scenario.leavings)
+    let kinds = tables_at(table, "kind")?;
+    read_kinds(alloc, kinds, &mut scenario.kinds)?;
+    let partings = tables_at(table, "parting")?;
+    read_partings(partings, kinds, &mut scenario.partings)?;
+    let leavings = tables_at(table, "leaving")?;
+    read_leavings(leavings, &mut scenario.leavings)
 }
 
 fn read_words(table: &Table) -> Result<Words, ScenarioRefusal> {
-    let Some(value) = table.get(Name::Words.text()) else {
+    if table.get("words").is_none() {
         return Ok(Words::Wide);
-    };
-    match value.as_str() {
+    }
+    match text_at(table, "words") {
         Some("wide") => Ok(Words::Wide),
         Some("near") => Ok(Words::Near),
-        _ => Err(wrong(Name::Words, Due::SomeWords)),
+        _ => Err(ScenarioRefusal::Wrong("words", Due::Said("wide or near"))),
     }
 }
 
 fn read_links(table: &Table) -> Result<Links, ScenarioRefusal> {
-    match table_at(table, Name::Links)? {
-        Some(inner) => links_in(inner),
-        None => Ok(Links {
-            latency_least: 20,
-            latency_most: 150,
-            lost: 0,
-            late: 0,
-            again: 300,
-            cut: 0,
-            wait: 3_000,
-        }),
-    }
-}
-
-fn links_in(table: &Table) -> Result<Links, ScenarioRefusal> {
-    check_links(table)?;
-    let latency_least = whole_or(table, Name::LatencyLeast, 1, MINUTE, 20)?;
-    let latency_most = whole_or(table, Name::LatencyMost, 1, MINUTE, 150)?;
+    let table = table_at(table, "links", LINK_NAMES)?;
+    let [latency_least, latency_most] = numbers(table, &LATENCIES, [20, 150])?;
     if latency_most < latency_least {
-        return Err(wrong(Name::LatencyMost, Due::NotBelow(Name::LatencyLeast)));
+        return Err(ScenarioRefusal::Wrong("latency_most", Due::NotBelow("latency_least")));
     }
     Ok(Links {
         latency_least,
         latency_most,
-        lost: share_or(table, Name::Lost, 0)?,
-        late: share_or(table, Name::Late, 0)?,
-        again: whole_or(table, Name::Again, 1, MINUTE, 300)?,
-        cut: share_or(table, Name::Cut, 0)?,
-        wait: whole_or(table, Name::Wait, 1, MINUTE, 3_000)?,
+        lost: share(table, "lost", 0)?,
+        late: share(table, "late", 0)?,
+        again: number(table, &AGAIN, Some(300))?,
+        cut: share(table, "cut", 0)?,
+        wait: number(table, &WAIT, Some(3_000))?,
     })
 }
 
-fn check_links(table: &Table) -> Result<(), ScenarioRefusal> {
-    let names = [
-        Name::LatencyLeast,
-        Name::LatencyMost,
-        Name::Lost,
-        Name::Late,
-        Name::Again,
-        Name::Cut,
-        Name::Wait,
-    ];
-    check_names(table, Name::Links, &names)
-}
-
 fn read_provider(table: &Table) -> Result<Provider, ScenarioRefusal> {
-    match table_at(table, Name::Roots)? {
-        Some(inner) => provider_in(inner),
-        None => Ok(Provider {
-            told: 20,
-            serves: 3_600_000,
-        }),
-    }
+    let table = table_at(table, "roots", "told serves")?;
+    let [told, serves] = numbers(table, &ROOTS, [20, 3_600_000])?;
+    Ok(Provider { told, serves })
 }
 
-fn provider_in(table: &Table) -> Result<Provider, ScenarioRefusal> {
-    check_names(table, Name::Roots, &[Name::Told, Name::Serves])?;
-    let told = whole_or(table, Name::Told, 0, 10_000, 20)?;
-    let serves = whole_or(table, Name::Serves, 1, 86_400_000, 3_600_000)?;
-    Ok(Provider { told, serves })
+// The table of a name, where the file has one.
+fn table_at<'a>(
+    table: &'a Table,
+    name: &'static str,
+    names: &str,
+) -> Result<Option<&'a Table>, ScenarioRefusal> {
+    match table.get(name) {
+        Some(value) => Ok(Some(as_table(value, name, names)?)),
+        None => Ok(None),
+    }
 }

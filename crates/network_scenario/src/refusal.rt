@@ -1,4 +1,3 @@
-use crate::Name;
 use net_base::{Field, OutOfMemory};
 use std::fmt;
 
@@ -7,38 +6,12 @@ use std::fmt;
 pub enum Due {
     /// A whole number, at least and at most so much.
     Whole(u64, u64),
-    Text,
-    Flag,
-    Table,
-    Tables,
-    /// A table with no other names than those that docs/NETWORK.md has.
-    KnownNames,
-    /// `wide` or `near`.
-    SomeWords,
-    /// `honest`, `answering` or `silent`.
-    SomeRole,
-    /// The name of a kind of the file.
-    SomeKind,
     /// Settings or targets of which this one is within its bounds.
     Bounded(Field),
-    /// At least the number before it.
-    NotBelow(Name),
-}
-
-impl Due {
-    // What is said of one that has nothing in it.
-    fn text(self) -> &'static str {
-        match self {
-            Due::Text => "a text",
-            Due::Flag => "true or false",
-            Due::Table => "a table",
-            Due::Tables => "tables",
-            Due::KnownNames => "a table with no other names than docs/NETWORK.md has",
-            Due::SomeWords => "wide or near",
-            Due::SomeRole => "honest, answering or silent",
-            _ => "the name of a kind",
-        }
-    }
+    /// At least the number of this name.
+    NotBelow(&'static str),
+    /// What the words say.
+    Said(&'static str),
 }
 
 impl fmt::Display for Due {
@@ -46,8 +19,8 @@ impl fmt::Display for Due {
         match self {
             Due::Whole(least, most) => write!(f, "a whole number from {least} to {most}"),
             Due::Bounded(field) => write!(f, "a table whose {field:?} is within its bounds"),
-            Due::NotBelow(name) => write!(f, "at least {}", name.text()),
-            other => write!(f, "{}", other.text()),
+            Due::NotBelow(name) => write!(f, "at least {name}"),
+            Due::Said(words) => f.write_str(words),
         }
     }
 }
@@ -57,17 +30,17 @@ impl fmt::Display for Due {
 pub enum ScenarioRefusal {
     /// They are no UTF-8, or no TOML document.
     BadToml,
-    /// The first value that is wrong or missing, and what was due in its place.
-    Wrong { name: Name, due: Due },
+    /// The name of the first value that is wrong or missing, and what was due in its place.
+    Wrong(&'static str, Due),
     OutOfMemory,
 }
 
 impl fmt::Display for ScenarioRefusal {
     fn fmt<W: fmt::Write>(&self, f: &mut fmt::Formatter<W>) -> fmt::Result {
         match self {
-            ScenarioRefusal::BadToml => write!(f, "no TOML document"),
-            ScenarioRefusal::Wrong { name, due } => { write!(f, "{}: {due} was due", name.text()) }
-            ScenarioRefusal::OutOfMemory => write!(f, "out of memory"),
+            ScenarioRefusal::BadToml => f.write_str("no TOML document"),
+            ScenarioRefusal::Wrong(name, due) => write!(f, "{name}: {due} was due"),
+            ScenarioRefusal::OutOfMemory => f.write_str("out of memory"),
         }
     }
 }

@@ -1,118 +1,141 @@
-ghost use Rattle.std.specs.Prelude.{IfOk};
-ghost use Rattle.network_scenario.specs.Ranges.{IsIn};
+ghost use Rattle.std.specs.Prelude.{◌≡◌, length, IfOk};
+ghost use Rattle.network_scenario.specs.Ranges.{IsIn, AreIn};
 
-use crate::{Due, Name, ScenarioRefusal};
+use crate::{Due, ScenarioRefusal};
 use toml::{Table, Value};
 
-/// The shares are of so many.
-pub(crate) const WHOLE: u64 = 1_000;
+/// A row of docs/NETWORK.md: the name of a number, and its range.
+#[derive(Clone, Copy)]
+pub(crate) struct Row(pub &'static str, pub u64, pub u64);
 
-pub(crate) fn wrong(name: Name, due: Due) -> ScenarioRefusal {
-    ScenarioRefusal::Wrong { name, due }
-}
-
-/// A whole number between two, and else the usual one.
-pub(crate) fn whole_or(
-    table: &Table,
-    name: Name,
-    least: u64,
-    most: u64,
-    usual: u64,
-) -> Result<u64, ScenarioRefusal>
-    requires { IsIn least most usual }
-    ensures { IfOk result (IsIn least most) }
+/// Numbers of a table, one of each row. Where there is no such name, or no table, it is the usual one.
+pub(crate) fn numbers<const N: usize>(
+    table: Option<&Table>,
+    rows: &[Row],
+    usual: [u64; N],
+) -> Result<[u64; N], ScenarioRefusal>
+    requires { length rows.now ≡ N }
+    ensures { IfOk result (AreIn rows.now) }
 {
-    match table.get(name.text()) {
-        None => Ok(usual),
-        Some(value) => whole(value, name, least, most),
+    let mut found = usual;
+    for place in 0..N {
+        found[place] = number(table, &rows[place], Some(found[place]))?;
     }
-}
-
-/// A whole number between two.
-pub(crate) fn whole_of(
-    table: &Table,
-    name: Name,
-    least: u64,
-    most: u64,
-) -> Result<u64, ScenarioRefusal>
-    ensures { IfOk result (IsIn least most) }
-{
-    match table.get(name.text()) {
-        None => Err(wrong(name, Due::Whole(least, most))),
-        Some(value) => whole(value, name, least, most),
-    }
-}
-
-fn whole(value: &Value, name: Name, least: u64, most: u64) -> Result<u64, ScenarioRefusal>
-    ensures { IfOk result (IsIn least most) }
-{
-    match number(value) {
-        Some(number) if least <= number && number <= most => Ok(number),
-        _ => Err(wrong(name, Due::Whole(least, most))),
-    }
-}
-
-fn number(value: &Value) -> Option<u64> {
-    let number = value.as_integer()?;
-    u64::try_from(number).ok()
+    Ok(found)
 }
 
 /// A share, of a thousand.
-pub(crate) fn share_or(table: &Table, name: Name, usual: u64) -> Result<u64, ScenarioRefusal>
-    requires { IsIn 0 1000 usual }
+pub(crate) fn share(
+    table: Option<&Table>,
+    name: &'static str,
+    usual: u64,
+) -> Result<u64, ScenarioRefusal>
     ensures { IfOk result (IsIn 0 1000) }
 {
-    whole_or(table, name, 0, WHOLE, usual)
+    number(table, &Row(name, 0, 1_000), Some(usual))
 }
 
-pub(crate) fn flag_or(table: &Table, name: Name, usual: bool) -> Result<bool, ScenarioRefusal> {
-    match table.get(name.text()) {
-        None => Ok(usual),
-        Some(value) => value.as_bool().ok_or(wrong(name, Due::Flag)),
+/// A number of a table. Where there is no such name, or no table, it is the usual one, and has to stand there where there
+/// is none.
+pub(crate) fn number(
+    table: Option<&Table>,
+    row: &Row,
+    usual: Option<u64>,
+) -> Result<u64, ScenarioRefusal>
+    ensures { IfOk result (IsIn row.now.1 row.now.2) }
+{
+    let Row(name, least, most) = *row;
+    match found_at(table, name, usual) {
+        Some(number) if least <= number && number <= most => Ok(number),
+        _ => Err(ScenarioRefusal::Wrong(name, Due::Whole(least, most))),
     }
 }
 
-/// The table of a name, where the file has one.
-pub(crate) fn table_at<'a>(
-    table: &'a Table,
-    name: Name,
-) -> Result<Option<&'a Table>, ScenarioRefusal> {
-    match table.get(name.text()) {
-        None => Ok(None),
-        Some(value) => match value.as_table() {
-            Some(inner) => Ok(Some(inner)),
-            None => Err(wrong(name, Due::Table)),
-        },
+fn found_at(table: Option<&Table>, name: &str, usual: Option<u64>) -> Option<u64> {
+    let value = match table {
+        Some(table) => table.get(name),
+        None => None,
+    };
+    match value {
+        Some(value) => natural(value.as_integer()?),
+        None => usual,
     }
+}
+
+fn natural(number: i64) -> Option<u64> {
+    if number < 0 {
+        return None;
+    }
+    Some(number as u64)
+}
+
+/// True, or not, or the usual one where the table doesn't have the name.
+pub(crate) fn flag(
+    table: &Table,
+    name: &'static str,
+    usual: bool,
+) -> Result<bool, ScenarioRefusal> {
+    let Some(value) = table.get(name) else {
+        return Ok(usual);
+    };
+    match value.as_bool() {
+        Some(flag) => Ok(flag),
+        None => Err(ScenarioRefusal::Wrong(name, Due::Said("true or false"))),
+    }
+}
+
+/// The text of a name, none where something else stands there.
+pub(crate) fn text_at<'a>(table: &'a Table, name: &str) -> Option<&'a str> {
+    table.get(name)?.as_str()
 }
 
 /// The tables of a name, none where the file has no such name.
-pub(crate) fn tables_at<'a>(table: &'a Table, name: Name) -> Result<&'a [Value], ScenarioRefusal> {
-    match table.get(name.text()) {
-        None => Ok(&[]),
-        Some(value) => match value.as_array() {
-            Some(values) => Ok(values.as_slice()),
-            None => Err(wrong(name, Due::Tables)),
-        },
+pub(crate) fn tables_at<'a>(
+    table: &'a Table,
+    name: &'static str,
+) -> Result<&'a [Value], ScenarioRefusal> {
+    let Some(value) = table.get(name) else {
+        return Ok(&[]);
+    };
+    match value.as_array() {
+        Some(values) => Ok(values.as_slice()),
+        None => Err(ScenarioRefusal::Wrong(name, Due::Said("tables"))),
     }
 }
 
-pub(crate) fn as_table(value: &Value, name: Name) -> Result<&Table, ScenarioRefusal> {
-    match value.as_table() {
-        Some(table) => Ok(table),
-        None => Err(wrong(name, Due::Table)),
-    }
+/// The table that stands at a name, and has no other names than these.
+pub(crate) fn as_table<'a>(
+    value: &'a Value,
+    name: &'static str,
+    names: &str,
+) -> Result<&'a Table, ScenarioRefusal> {
+    let Some(table) = value.as_table() else {
+        return Err(ScenarioRefusal::Wrong(name, Due::Said("a table")));
+    };
+    check_names(table, name, names)?;
+    Ok(table)
 }
 
-/// A table has no other names than these.
-pub(crate) fn check_names(table: &Table, of: Name, names: &[Name]) -> Result<(), ScenarioRefusal> {
-    if table.keys().all(|key| is_among(key.as_str(), names)) {
-        Ok(())
-    } else {
-        Err(wrong(of, Due::KnownNames))
+/// A table has no other names than these, which have a space between two.
+pub(crate) fn check_names(
+    table: &Table,
+    of: &'static str,
+    names: &str,
+) -> Result<(), ScenarioRefusal> {
+    for key in table.keys() {
+        if !is_among(key.as_str(), names) {
+            let due = Due::Said("a table with no other names than docs/NETWORK.md has");
+            return Err(ScenarioRefusal::Wrong(of, due));
+        }
     }
+    Ok(())
 }
 
-fn is_among(key: &str, names: &[Name]) -> bool {
-    names.iter().any(|name| key == name.text())
+fn is_among(key: &str, names: &str) -> bool {
+    for name in names.split(' ') {
+        if name == key {
+            return true;
+        }
+    }
+    false
 }

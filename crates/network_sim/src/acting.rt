@@ -1,15 +1,15 @@
 //! What is done of what an engine asks for.
 
-use crate::addresses::node_of;
+use crate::addresses::place_of;
 use crate::ground::Ground;
 use crate::happening::Happening;
 use crate::link::Side;
-use net_base::{Action, Addr, Cid, Job, OutOfMemory};
+use net_base::{Action, Cid, Job, OutOfMemory};
 
 impl Ground {
     /// Does what a node's engine asks for, after it took an event.
     pub(crate) fn act_all(&mut self, index: usize, actions: &[Action]) -> Result<(), OutOfMemory> {
-        self.reporter.count_event();
+        self.reporter.events = self.reporter.events.saturating_add(1);
         for action in actions {
             self.act(index, action)?;
         }
@@ -20,7 +20,7 @@ impl Ground {
         match action {
             Action::Admit(cid, _) => self.admit(index, *cid),
             Action::Turnaway(_) => self.turn_away(),
-            Action::Dial(cid, addr) => self.dial_for(index, *cid, *addr),
+            Action::Dial(cid, addr) => self.dial(index, Some(*cid), place_of(*addr)),
             Action::Send(cid, bytes) => self.send(index, *cid, bytes.as_slice()),
             Action::Close(cid, _) => self.hang_up(index, *cid),
             Action::Pause(time) => self.pause(index, *time),
@@ -29,15 +29,10 @@ impl Ground {
         }
     }
 
-    fn dial_for(&mut self, index: usize, cid: Cid, addr: Addr) -> Result<(), OutOfMemory> {
-        let to = node_of(addr).unwrap_or(usize::MAX);
-        self.dial(index, Some(cid), to)
-    }
-
     // The peer that asks to be accepted is.
     fn admit(&mut self, index: usize, cid: Cid) -> Result<(), OutOfMemory> {
         match self.caller.take() {
-            Some(link) => self.name_end(link, Side::Acceptor, index, cid),
+            Some(link) => self.name_end(link, index, cid),
             None => Ok(()),
         }
     }

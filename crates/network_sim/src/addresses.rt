@@ -16,10 +16,10 @@ pub(crate) fn address_of(node: usize) -> Addr {
     }
 }
 
-/// The node that an address would be of.
-pub(crate) fn node_of(addr: Addr) -> Option<usize> {
+/// The place of the node that an address would be of. No node has the greatest.
+pub(crate) fn place_of(addr: Addr) -> usize {
     match addr.ip {
-        Ip::V4(ip) if addr.port == PORT => Some(ip.checked_sub(FIRST)? as usize),
-        _ => None,
+        Ip::V4(ip) if addr.port == PORT && ip >= FIRST => (ip - FIRST) as usize,
+        _ => usize::MAX,
     }
 }

@@ -7,14 +7,17 @@ use std::collections::BTreeMap;
 #[derive(Drop)]
 pub(crate) struct Agenda {
     pub now: u64,
+    /// Nothing happens after it.
+    end: u64,
     waiting: BTreeMap<(u64, u64), Happening>,
     number: u64,
 }
 
 impl Agenda {
-    pub(crate) fn new(alloc: Global) -> Agenda {
+    pub(crate) fn new(alloc: Global, end: u64) -> Agenda {
         Agenda {
             now: 0,
+            end,
             waiting: BTreeMap::new(alloc),
             number: 0,
         }
@@ -29,14 +32,13 @@ impl Agenda {
 
     /// Has something happen after a time.
     pub(crate) fn later(&mut self, time: u64, happening: Happening) -> Result<(), OutOfMemory> {
-        let moment = self.now.saturating_add(time);
-        self.put(moment, happening)
+        self.put(self.now.saturating_add(time), happening)
     }
 
     /// Takes out what happens next, and turns the clock to it. None where nothing happens up to the end.
-    pub(crate) fn next(&mut self, end: u64) -> Option<Happening> {
+    pub(crate) fn next(&mut self) -> Option<Happening> {
         let ((moment, _), happening) = self.waiting.pop_first()?;
-        if moment > end {
+        if moment > self.end {
             return None;
         }
         self.now = moment;

@@ -24,7 +24,7 @@ impl Ground {
         if !self.wants_slots(index) {
             return Ok(());
         }
-        match self.draws.place(self.nodes.len()) {
+        match self.draws.place(self.nodes.all.len()) {
             Some(to) if self.nodes.is_honest(to) => self.dial(index, None, to),
             _ => Ok(()),
         }
@@ -97,16 +97,13 @@ impl Ground {
 
     fn draw_attackers(&mut self, count: u8, told: &mut AddrList) -> Result<(), OutOfMemory> {
         for _ in 0..count.min(PEERS_MOST) {
-            if let Some(attacker) = self.some_attacker() {
-                told.push(address_of(attacker))?;
+            if let Some(place) = self.draws.place(self.attackers.len()) {
+                if let Some(attacker) = self.attackers.get(place) {
+                    told.push(address_of(*attacker))?;
+                }
             }
         }
         Ok(())
-    }
-
-    fn some_attacker(&mut self) -> Option<usize> {
-        let place = self.draws.place(self.attackers.len())?;
-        self.attackers.get(place).copied()
     }
 }
 

@@ -1,61 +1,90 @@
 //! What something that happens does to the network, and what it leaves to those that step for nodes.
 
-use crate::given::Given;
 use crate::ground::Ground;
 use crate::happening::Happening;
-use crate::task::Task;
-use net_base::OutOfMemory;
+use crate::task::{After, Task};
+use net_base::{Event, OutOfMemory};
 
 impl Ground {
-    /// Something happens.
-    pub(crate) fn happen(&mut self, happening: Happening) -> Result<Option<Task>, OutOfMemory> {
-        match happening {
-            Happening::Begin(node) => Ok(self.begin(node)),
-            Happening::Tick(node, life) => self.tick(node, life),
-            Happening::Connect(link) => self.connect(link),
-            Happening::Dialed(link, is_open) => Ok(give(self.dial_ends(link, is_open)?)),
-            Happening::Arrive(link, side, bytes) => Ok(give(self.arrive(link, side, bytes)?)),
-            Happening::Closed(link, side) => Ok(give(self.end_closed(link, side))),
-            Happening::Roots(node, life, job) => Ok(give(self.answer_roots(node, life, job)?)),
-            Happening::Resume(node, life) => Ok(self.resume(node, life)),
-            Happening::Leave(place) => Ok(Some(Task::Leave(place))),
-            other => self.happen_to_all(other),
+    /// What follows on the last task is done, or the next thing happens.
+    pub(crate) fn go_on(&mut self) -> Result<(), OutOfMemory> {
+        match self.after {
+            After::Nothing => self.happen_next(),
+            After::Look(node) => self.look(node),
+            After::Welcome(node) => self.welcome(node),
+            After::Leave(leaving, node) => self.leave_from(leaving, node),
         }
     }
 
-    // What leaves nothing to be done.
-    fn happen_to_all(&mut self, happening: Happening) -> Result<Option<Task>, OutOfMemory> {
-        match happening {
-            Happening::Part(place) => self.part(place)?,
-            Happening::Heal => self.nodes.is_parted = false,
-            _ => self.report_and_go_on()?,
+    fn happen_next(&mut self) -> Result<(), OutOfMemory> {
+        if let Some(happening) = self.agenda.next() {
+            return self.happen(happening);
         }
-        Ok(None)
+        self.is_over = true;
+        self.reporter
+            .report_reached(self.scenario.kinds.as_slice(), &self.nodes)
+    }
+
+    fn happen(&mut self, happening: Happening) -> Result<(), OutOfMemory> {
+        match happening {
+            Happening::Begin(node) => self.begin(node),
+            Happening::Tick(node, life) => self.tick(node, life),
+            Happening::Connect(link) => self.connect(link),
+            Happening::Dialed(link, is_open) => self.dial_ends(link, is_open),
+            Happening::Arrive(link, side, bytes) => self.arrive(link, side, bytes),
+            Happening::Roots(node, life, job) => self.answer_roots(node, life, job),
+            Happening::Part(parting) => self.part(parting),
+            Happening::Report => self.report(),
+            other => {
+                self.turn_over(other);
+                Ok(())
+            }
+        }
+    }
+
+    fn turn_over(&mut self, happening: Happening) {
+        match happening {
+            Happening::Closed(link, side) => self.end_closed(link, side),
+            Happening::Resume(node, life) if self.nodes.lives(node, life) => {
+                self.after = After::Welcome(node);
+            }
+            Happening::Heal => self.nodes.is_parted = false,
+            Happening::Leave(leaving) => self.after = After::Leave(leaving, 0),
+            _ => {}
+        }
     }
 
     // An attacker's node looks at its slots, and another at its targets.
-    fn tick(&mut self, node: usize, life: u64) -> Result<Option<Task>, OutOfMemory> {
+    fn tick(&mut self, node: usize, life: u64) -> Result<(), OutOfMemory> {
         if !self.nodes.lives(node, life) {
-            return Ok(None);
+            return Ok(());
         }
         if self.nodes.is_honest(node) {
-            return Ok(Some(Task::Govern(node, self.govern_word())));
+            self.after = After::Look(node);
+            let word = self.govern_word();
+            self.give(node, Event::Govern(word));
+            return Ok(());
         }
         self.attack(node)?;
-        self.tick_again(node)?;
-        Ok(None)
+        self.foresee_tick(node, false)
     }
 
-    // A node accepts again.
-    fn resume(&self, node: usize, life: u64) -> Option<Task> {
-        if self.nodes.lives(node, life) {
-            Some(Task::Welcome(node))
-        } else {
-            None
+    /// A node is to hear an event, where it isn't an attacker's.
+    pub(crate) fn give(&mut self, node: usize, event: Event) {
+        if self.nodes.is_honest(node) {
+            let moment = self.moment_to_show(node);
+            self.task = Some(Task::Give(node, moment, event));
         }
     }
-}
 
-fn give(given: Option<Given>) -> Option<Task> {
-    Some(Task::Give(given?))
+    // The moment that a node's engine is to be shown, where it is a later one than that shown last.
+    fn moment_to_show(&mut self, index: usize) -> Option<u64> {
+        let node = self.nodes.get_mut(index)?;
+        let moment = self.agenda.now.saturating_sub(node.begun);
+        if moment <= node.shown {
+            return None;
+        }
+        node.shown = moment;
+        Some(moment)
+    }
 }

@@ -1,15 +1,22 @@
+use crate::node::Node;
+use crate::nodes::Nodes;
 use net_base::OutOfMemory;
 use std::alloc::Global;
-use std::collections::VecDeque;
 
 /// Which nodes have an active connection with which, whoever uses it.
 #[derive(Drop)]
 pub(crate) struct Graph {
     alloc: Global,
-    /// The nodes that count.
-    members: Vec<usize>,
+    /// The nodes that count: those that are up and no attacker's.
+    pub members: Vec<usize>,
     /// Of each node, those next to it.
     near: Vec<Vec<usize>>,
+    /// Of each node, the number of the last walk that met it.
+    met: Vec<u64>,
+    walks: u64,
+    /// How many active peers they have, and how many of these are an attacker's.
+    pub active: u64,
+    pub attackers: u64,
 }
 
 /// Into how many pieces a graph falls.
@@ -25,33 +32,51 @@ pub(crate) struct Pieces {
 
 /// How far a walk came.
 #[derive(Clone, Copy)]
-pub(crate) struct Walk {
-    pub met: u64,
-    pub depth: u64,
+struct Walk {
+    met: u64,
+    depth: u64,
 }
 
 impl Graph {
-    /// No node counts yet, of so many.
-    pub(crate) fn new(alloc: Global, count: usize) -> Result<Graph, OutOfMemory> {
-        let mut near = Vec::new(alloc);
-        for _ in 0..count {
-            near.push(Vec::new(alloc))?;
-        }
-        Ok(Graph {
+    /// That of no nodes.
+    pub(crate) fn new(alloc: Global) -> Graph {
+        Graph {
             alloc,
             members: Vec::new(alloc),
-            near,
-        })
+            near: Vec::new(alloc),
+            met: Vec::new(alloc),
+            walks: 0,
+            active: 0,
+            attackers: 0,
+        }
     }
 
-    pub(crate) fn count(&mut self, node: usize) -> Result<(), OutOfMemory> {
-        self.members.push(node)?;
+    /// Draws the nodes, and whom each of them uses.
+    pub(crate) fn draw(&mut self, nodes: &Nodes) -> Result<(), OutOfMemory> {
+        for _ in &nodes.all {
+            self.near.push(Vec::new(self.alloc))?;
+            self.met.push(0)?;
+        }
+        for (place, node) in nodes.all.iter().enumerate() {
+            if node.is_up && node.is_honest() {
+                self.members.push(place)?;
+                self.draw_uses(place, node, nodes)?;
+            }
+        }
         Ok(())
     }
 
-    pub(crate) fn join(&mut self, one: usize, other: usize) -> Result<(), OutOfMemory> {
-        self.put_near(one, other)?;
-        self.put_near(other, one)
+    fn draw_uses(&mut self, place: usize, node: &Node, nodes: &Nodes) -> Result<(), OutOfMemory> {
+        for peer in node.peers.hot.iter() {
+            self.active = self.active.saturating_add(1);
+            if !nodes.is_honest(*peer) {
+                self.attackers = self.attackers.saturating_add(1);
+            } else if nodes.is_up(*peer) {
+                self.put_near(place, *peer)?;
+                self.put_near(*peer, place)?;
+            }
+        }
+        Ok(())
     }
 
     fn put_near(&mut self, one: usize, other: usize) -> Result<(), OutOfMemory> {
@@ -61,108 +86,91 @@ impl Graph {
         Ok(())
     }
 
-    pub(crate) fn pieces(&self) -> Result<Pieces, OutOfMemory> {
-        let mut seen = self.unseen()?;
+    pub(crate) fn pieces(&mut self) -> Result<Pieces, OutOfMemory> {
         let mut pieces = Pieces {
             pieces: 0,
             alone: 0,
             largest: 0,
         };
-        for start in self.members.iter() {
-            if is_new(*start, &mut seen) {
-                let walk = self.walk_on(*start, &mut seen)?;
-                pieces = pieces.with(walk.met);
-            }
+        self.walks = 1;
+        for place in 0..self.members.len() {
+            let walk = self.walk_from(place)?;
+            pieces = pieces.with(walk.met);
         }
         Ok(pieces)
     }
 
-    /// How far the node is that is farthest from one, of those that it reaches.
-    pub(crate) fn depth_from(&self, member: usize) -> Result<u64, OutOfMemory> {
-        let Some(start) = self.members.get(member) else {
-            return Ok(0);
-        };
-        let mut seen = self.unseen()?;
-        let walk = if is_new(*start, &mut seen) {
-            self.walk_on(*start, &mut seen)?.depth
-        } else {
-            0
-        };
-        Ok(walk)
+    /// How far the node is that is farthest from a member, of those that it reaches.
+    pub(crate) fn depth_from(&mut self, place: usize) -> Result<u64, OutOfMemory> {
+        self.walks = self.walks.saturating_add(1);
+        let walk = self.walk_from(place)?;
+        Ok(walk.depth)
     }
 
-    pub(crate) fn len(&self) -> usize {
-        self.members.len()
-    }
-
-    fn unseen(&self) -> Result<Vec<bool>, OutOfMemory> {
-        let mut seen = Vec::new(self.alloc);
-        for _ in 0..self.near.len() {
-            seen.push(false)?;
+    // Walks over all that are reached from a member. It meets none that this walk has met before.
+    fn walk_from(&mut self, place: usize) -> Result<Walk, OutOfMemory> {
+        let mut queue = Vec::new(self.alloc);
+        if let Some(start) = self.members.get(place).copied() {
+            meet(start, 0, self.walks, &mut self.met, &mut queue)?;
         }
-        Ok(seen)
+        self.walk(&mut queue)
     }
 
-    // Walks over all that are reached from a node that is seen already, and sees them.
-    fn walk_on(&self, start: usize, seen: &mut Vec<bool>) -> Result<Walk, OutOfMemory> {
+    // Goes on from those that were met first.
+    fn walk(&mut self, queue: &mut Vec<(usize, u64)>) -> Result<Walk, OutOfMemory> {
         let mut walk = Walk { met: 0, depth: 0 };
-        let mut queue = VecDeque::new(self.alloc);
-        queue.push_back((start, 0_u64))?;
-        for _ in 0..u64::MAX {
-            let Some((node, depth)) = queue.pop_front() else {
-                return Ok(walk);
+        for place in 0..usize::MAX {
+            let Some((node, depth)) = queue.get(place).copied() else {
+                break;
             };
             walk.met = walk.met.saturating_add(1);
             walk.depth = depth;
-            self.go_near(node, depth.saturating_add(1), seen, &mut queue)?;
+            self.meet_near(node, depth.saturating_add(1), queue)?;
         }
         Ok(walk)
     }
 
-    fn go_near(
-        &self,
+    fn meet_near(
+        &mut self,
         node: usize,
         depth: u64,
-        seen: &mut Vec<bool>,
-        queue: &mut VecDeque<(usize, u64)>,
+        queue: &mut Vec<(usize, u64)>,
     ) -> Result<(), OutOfMemory> {
         let Some(near) = self.near.get(node) else {
             return Ok(());
         };
-        for other in near.iter() {
-            if is_new(*other, seen) {
-                queue.push_back((*other, depth))?;
-            }
+        for other in near {
+            meet(*other, depth, self.walks, &mut self.met, queue)?;
         }
         Ok(())
     }
 }
 
-impl Pieces {
-    fn with(self, size: u64) -> Pieces {
-        if size == 1 {
-            Pieces {
-                alone: self.alone.saturating_add(1),
-                largest: self.largest.max(1),
-                ..self
-            }
-        } else {
-            Pieces {
-                pieces: self.pieces.saturating_add(1),
-                largest: self.largest.max(size),
-                ..self
-            }
+// A node is met, where this walk hasn't met it before.
+fn meet(
+    node: usize,
+    depth: u64,
+    walk: u64,
+    met: &mut Vec<u64>,
+    queue: &mut Vec<(usize, u64)>,
+) -> Result<(), OutOfMemory> {
+    match met.get_mut(node) {
+        Some(last) if *last != walk => {
+            *last = walk;
+            queue.push((node, depth))?;
+            Ok(())
         }
+        _ => Ok(()),
     }
 }
 
-// Whether a node was not seen yet. It is seen then.
-fn is_new(node: usize, seen: &mut Vec<bool>) -> bool {
-    match seen.get_mut(node) {
-        Some(mark) if !*mark => {
-            *mark = true;
-            true
+impl Pieces {
+    // With a piece of so many nodes, where it has any.
+    fn with(self, size: u64) -> Pieces {
+        Pieces {
+            pieces: self.pieces.saturating_add((size >= 2) as u64),
+            alone: self.alone.saturating_add((size == 1) as u64),
+            largest: self.largest.max(size),
         }
-        _ => false,
     }
 }

@@ -1,5 +1,6 @@
 use crate::link::Side;
 use net_base::{Job, Octets};
+use network_scenario::{Leaving, Parting};
 
 /// What happens in the network.
 #[derive(Drop)]
@@ -19,10 +20,10 @@ pub(crate) enum Happening {
     Roots(usize, u64, Job),
     /// A node accepts again.
     Resume(usize, u64),
-    /// The network falls apart, by the place of the scenario's entry; and is whole again.
-    Part(usize),
+    /// The network falls apart; and is whole again.
+    Part(Parting),
     Heal,
     /// Nodes leave.
-    Leave(usize),
+    Leave(Leaving),
     Report,
 }

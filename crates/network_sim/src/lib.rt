@@ -3,17 +3,13 @@
 #![tactic(auto)]
 
 mod acting;
-mod active;
 mod addresses;
 mod agenda;
 mod asked;
 mod attacking;
 mod befalling;
-mod census;
 mod draws;
 mod fits;
-mod given;
-mod goal;
 mod graph;
 mod ground;
 mod happening;
@@ -23,6 +19,7 @@ mod link;
 mod linking;
 mod links;
 mod living;
+mod measure;
 mod mishaps;
 mod network;
 mod node;
@@ -31,11 +28,10 @@ mod peers;
 mod putting;
 mod reached;
 mod reporter;
-mod roots;
 mod running;
 mod seat;
-mod seats;
 mod segments;
+mod spread;
 mod task;
 mod trace;
 

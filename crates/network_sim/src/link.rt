@@ -26,60 +26,53 @@ pub(crate) struct Hold {
 }
 
 /// One end of a link.
-#[derive(Drop)]
+#[derive(Clone, Copy)]
 pub(crate) struct End {
     pub node: usize,
     /// What the node calls it. None before it was admitted.
     pub cid: Option<Cid>,
     pub is_open: bool,
     /// The moment before which nothing that is sent now comes here: bytes stay in order.
-    ready: u64,
-    /// What came before it was admitted.
-    pub early: VecDeque<Octets>,
-}
-
-impl End {
-    fn new(alloc: Global, node: usize, cid: Option<Cid>, is_open: bool) -> End {
-        End {
-            node,
-            cid,
-            is_open,
-            ready: 0,
-            early: VecDeque::new(alloc),
-        }
-    }
-
-    /// Takes out what came first before it was admitted, where it is by now.
-    pub(crate) fn take_early(&mut self) -> Option<Octets> {
-        if self.cid.is_none() || !self.is_open {
-            return None;
-        }
-        self.early.pop_front()
-    }
+    pub ready: u64,
 }
 
 /// A link between two nodes, or a dial on its way.
 #[derive(Drop)]
 pub(crate) struct Link {
-    dialer: End,
-    acceptor: End,
+    pub dialer: End,
+    pub acceptor: End,
     pub latency: u64,
+    /// What came to the acceptor before it admitted the dialer.
+    pub early: VecDeque<Octets>,
 }
 
 impl Link {
     /// A dial on its way.
     pub(crate) fn new(alloc: Global, from: usize, cid: Cid, to: usize, latency: u64) -> Link {
+        let dialer = End {
+            node: from,
+            cid: Some(cid),
+            is_open: true,
+            ready: 0,
+        };
+        let acceptor = End {
+            node: to,
+            cid: None,
+            is_open: false,
+            ready: 0,
+        };
         Link {
-            dialer: End::new(alloc, from, Some(cid), true),
-            acceptor: End::new(alloc, to, None, false),
+            dialer,
+            acceptor,
             latency,
+            early: VecDeque::new(alloc),
         }
     }
 
-    pub(crate) fn end(&self, side: Side) -> &End {
+    pub(crate) fn end(&self, side: Side) -> End {
         match side {
-            Side::Dialer => &self.dialer,
-            Side::Acceptor => &self.acceptor,
+            Side::Dialer => self.dialer,
+            Side::Acceptor => self.acceptor,
         }
     }
 
@@ -88,10 +81,6 @@ impl Link {
             Side::Dialer => &mut self.dialer,
             Side::Acceptor => &mut self.acceptor,
         }
-    }
-
-    pub(crate) fn is_over(&self) -> bool {
-        !self.dialer.is_open && !self.acceptor.is_open
     }
 
     /// When what is sent at a moment comes to an end. None where it never does.

@@ -1,10 +1,9 @@
 //! How links come, carry bytes and go.
 
-use crate::given::Given;
 use crate::ground::Ground;
 use crate::happening::Happening;
 use crate::link::{Hold, Link, Side};
-use crate::task::Task;
+use crate::task::After;
 use net_base::{Addr, Cid, Event, Octets, OutOfMemory};
 
 // How a dial is answered.
@@ -22,13 +21,20 @@ impl Ground {
         cid: Option<Cid>,
         to: usize,
     ) -> Result<(), OutOfMemory> {
-        let id = self.links.take_number();
+        let id = self.links.next;
         let cid = cid.unwrap_or(Cid(id));
         let links = self.scenario.links;
         let latency = self.draws.between(links.latency_least, links.latency_most);
         self.links
-            .put(id, Link::new(self.alloc, from, cid, to, latency))?;
-        self.hold(id, Side::Dialer, from, cid)?;
+            .put(Link::new(self.alloc, from, cid, to, latency))?;
+        self.nodes.hold(
+            from,
+            cid,
+            Hold {
+                link: id,
+                side: Side::Dialer,
+            },
+        )?;
         if self.draws.chance(links.lost) {
             self.agenda.later(links.wait, Happening::Dialed(id, false))
         } else {
@@ -36,34 +42,32 @@ impl Ground {
         }
     }
 
-    fn hold(&mut self, link: u64, side: Side, node: usize, cid: Cid) -> Result<(), OutOfMemory> {
-        self.nodes.hold(node, cid, Hold { link, side })
-    }
-
-    /// The end of a link is a node's connection of this id from now on.
-    pub(crate) fn name_end(
-        &mut self,
-        link: u64,
-        side: Side,
-        node: usize,
-        cid: Cid,
-    ) -> Result<(), OutOfMemory> {
-        if let Some(end) = self.links.end_mut(link, side) {
+    /// The acceptor has admitted the dialer: the end of the link is its connection of this id from now on.
+    pub(crate) fn name_end(&mut self, link: u64, node: usize, cid: Cid) -> Result<(), OutOfMemory> {
+        if let Some(end) = self.links.end_mut(link, Side::Acceptor) {
             end.cid = Some(cid);
         }
-        self.hold(link, side, node, cid)
+        self.nodes.hold(
+            node,
+            cid,
+            Hold {
+                link,
+                side: Side::Acceptor,
+            },
+        )
     }
 
-    /// A dial reaches the other side. Where somebody waits there to be accepted, that is left to be done.
-    pub(crate) fn connect(&mut self, id: u64) -> Result<Option<Task>, OutOfMemory> {
+    /// A dial reaches the other side.
+    pub(crate) fn connect(&mut self, id: u64) -> Result<(), OutOfMemory> {
         let Some((from, to, latency)) = self.links.ends_of(id) else {
-            return Ok(None);
+            return Ok(());
         };
-        match self.answer_to(from, to) {
-            Answer::Open => self.open(id, to, latency),
-            Answer::Refused => self.fail(id, latency),
-            Answer::Nothing => self.fail(id, self.scenario.links.wait),
-        }
+        let time = match self.answer_to(from, to) {
+            Answer::Open => return self.open(id, to, latency),
+            Answer::Refused => latency,
+            Answer::Nothing => self.scenario.links.wait,
+        };
+        self.agenda.later(time, Happening::Dialed(id, false))
     }
 
     fn answer_to(&self, from: usize, to: usize) -> Answer {
@@ -80,44 +84,52 @@ impl Ground {
         }
     }
 
-    fn fail(&mut self, id: u64, time: u64) -> Result<Option<Task>, OutOfMemory> {
-        self.agenda.later(time, Happening::Dialed(id, false))?;
-        Ok(None)
-    }
-
     // The socket is open. An attacker accepts at once; a node once it accepts.
-    fn open(&mut self, id: u64, to: usize, latency: u64) -> Result<Option<Task>, OutOfMemory> {
+    fn open(&mut self, id: u64, to: usize, latency: u64) -> Result<(), OutOfMemory> {
         if let Some(end) = self.links.end_mut(id, Side::Acceptor) {
             end.is_open = true;
         }
         self.agenda.later(latency, Happening::Dialed(id, true))?;
         if self.nodes.is_honest(to) {
-            self.wait(id, to)?;
-            Ok(Some(Task::Welcome(to)))
+            self.nodes.wait(to, id)?;
+            self.after = After::Welcome(to);
+            Ok(())
         } else {
-            self.name_end(id, Side::Acceptor, to, Cid(id))?;
-            Ok(None)
+            self.name_end(id, to, Cid(id))
         }
     }
 
-    fn wait(&mut self, id: u64, to: usize) -> Result<(), OutOfMemory> {
-        match self.nodes.get_mut(to) {
-            Some(node) => {
-                node.callers.push_back(id)?;
-                Ok(())
+    /// A node that accepts hears what came early of the one that it was asked about last, or that the next one asks to be
+    /// accepted. That goes on until nobody does, or accepting pauses.
+    pub(crate) fn welcome(&mut self, index: usize) -> Result<(), OutOfMemory> {
+        self.turn_away()?;
+        if let Some(event) = self.links.take_early(self.called) {
+            self.give(index, event);
+            return Ok(());
+        }
+        self.called = self.next_caller(index);
+        match self.called {
+            Some(link) => {
+                if let Some(from) = self.call(link) {
+                    self.give(index, Event::Accepted(from));
+                }
             }
-            None => Ok(()),
+            None => self.after = After::Nothing,
         }
+        Ok(())
     }
 
-    /// The link of the next one to be accepted by a node, unless accepting pauses.
-    pub(crate) fn next_caller(&mut self, index: usize) -> Option<u64> {
-        let now = self.agenda.now;
-        self.nodes.get_mut(index)?.next_caller(now)
+    // The link of the one that waits longest to be accepted.
+    fn next_caller(&mut self, index: usize) -> Option<u64> {
+        let node = self.nodes.get_mut(index)?;
+        if self.agenda.now < node.paused_until {
+            return None;
+        }
+        node.callers.pop_front()
     }
 
-    /// The address of who asks to be accepted, where it does still.
-    pub(crate) fn call(&mut self, id: u64) -> Option<Addr> {
+    // The address of who asks to be accepted, where it does still.
+    fn call(&mut self, id: u64) -> Option<Addr> {
         self.links.open_end(id, Side::Acceptor)?;
         let (from, _, _) = self.links.ends_of(id)?;
         let addr = self.nodes.get(from)?.addr;
@@ -126,13 +138,9 @@ impl Ground {
     }
 
     /// A dial has ended.
-    pub(crate) fn dial_ends(
-        &mut self,
-        id: u64,
-        is_open: bool,
-    ) -> Result<Option<Given>, OutOfMemory> {
+    pub(crate) fn dial_ends(&mut self, id: u64, is_open: bool) -> Result<(), OutOfMemory> {
         let Some((node, Some(cid))) = self.links.open_end(id, Side::Dialer) else {
-            return Ok(None);
+            return Ok(());
         };
         if !is_open {
             self.links.remove(id);
@@ -140,7 +148,8 @@ impl Ground {
         } else if !self.nodes.is_honest(node) {
             self.propose(id)?;
         }
-        Ok(self.heard(node, Event::Dialed(cid, is_open)))
+        self.give(node, Event::Dialed(cid, is_open));
+        Ok(())
     }
 
     /// Bytes that a node sends on a connection.
@@ -153,9 +162,10 @@ impl Ground {
 
     /// Puts bytes on their way to an end, in one piece or two.
     pub(crate) fn deliver(&mut self, id: u64, side: Side, bytes: &[u8]) -> Result<(), OutOfMemory> {
-        self.reporter.count_bytes(bytes.len());
-        if bytes.len() >= 2 && self.draws.chance(self.scenario.links.cut) {
-            let (front, behind) = bytes.split_at(bytes.len() / 2);
+        let count = bytes.len();
+        self.reporter.bytes = self.reporter.bytes.saturating_add(count as u64);
+        if count >= 2 && self.draws.chance(self.scenario.links.cut) {
+            let (front, behind) = bytes.split_at(count / 2);
             self.deliver_piece(id, side, front)?;
             self.deliver_piece(id, side, behind)
         } else {
@@ -193,27 +203,11 @@ impl Ground {
     }
 
     /// Bytes come to an end. Before it is admitted they wait.
-    pub(crate) fn arrive(
-        &mut self,
-        id: u64,
-        side: Side,
-        bytes: Octets,
-    ) -> Result<Option<Given>, OutOfMemory> {
+    pub(crate) fn arrive(&mut self, id: u64, side: Side, bytes: Octets) -> Result<(), OutOfMemory> {
         match self.links.open_end(id, side) {
             Some((node, Some(cid))) => self.read(id, side, node, cid, bytes),
-            Some((_, None)) => {
-                self.links.keep(id, side, bytes)?;
-                Ok(None)
-            }
-            None => Ok(None),
-        }
-    }
-
-    /// The first bytes that came before the acceptor's end was admitted come to it, where it is by now.
-    pub(crate) fn arrive_early(&mut self, id: u64) -> Result<Option<Given>, OutOfMemory> {
-        match self.links.take_early(id) {
-            Some(bytes) => self.arrive(id, Side::Acceptor, bytes),
-            None => Ok(None),
+            Some((_, None)) => self.links.keep(id, bytes),
+            None => Ok(()),
         }
     }
 
@@ -224,11 +218,12 @@ impl Ground {
         node: usize,
         cid: Cid,
         bytes: Octets,
-    ) -> Result<Option<Given>, OutOfMemory> {
+    ) -> Result<(), OutOfMemory> {
         if !self.nodes.is_honest(node) {
-            self.answer(id, side, node, bytes.as_slice())?;
+            return self.answer(id, side, node, bytes.as_slice());
         }
-        Ok(self.heard(node, Event::Bytes(cid, bytes)))
+        self.give(node, Event::Bytes(cid, bytes));
+        Ok(())
     }
 
     /// A node closes a connection.
@@ -254,26 +249,25 @@ impl Ground {
     }
 
     /// An end hears that the other one has closed.
-    pub(crate) fn end_closed(&mut self, id: u64, side: Side) -> Option<Given> {
-        let (node, cid) = self.links.open_end(id, side)?;
+    pub(crate) fn end_closed(&mut self, id: u64, side: Side) {
+        let Some((node, cid)) = self.links.open_end(id, side) else {
+            return;
+        };
         self.links.close(id, side);
-        let cid = cid?;
-        self.nodes.let_go(node, cid);
-        self.heard(node, Event::Closed(cid))
+        if let Some(cid) = cid {
+            self.nodes.let_go(node, cid);
+            self.give(node, Event::Closed(cid));
+        }
     }
 
     /// Who waits for a node is refused, and its links end.
     pub(crate) fn drop_all(&mut self, index: usize) -> Result<(), OutOfMemory> {
         for _ in 0..u64::MAX {
-            match self.take_hold(index) {
+            match self.nodes.take_hold(index) {
                 Some(hold) => self.shut(hold.link, hold.side)?,
                 None => return Ok(()),
             }
         }
         Ok(())
-    }
-
-    fn take_hold(&mut self, index: usize) -> Option<Hold> {
-        self.nodes.get_mut(index)?.take_hold()
     }
 }

@@ -1,14 +1,14 @@
 use crate::link::{End, Link, Side};
-use crate::nodes::Nodes;
-use net_base::{Cid, Octets, OutOfMemory};
+use net_base::{Cid, Event, Octets, OutOfMemory};
 use std::alloc::Global;
 use std::collections::BTreeMap;
 
 /// The links of a network, by their numbers.
 #[derive(Drop)]
 pub(crate) struct Links {
-    all: BTreeMap<u64, Link>,
-    next: u64,
+    pub all: BTreeMap<u64, Link>,
+    /// The number of the next link.
+    pub next: u64,
 }
 
 impl Links {
@@ -19,15 +19,10 @@ impl Links {
         }
     }
 
-    /// The number of the next link.
-    pub(crate) fn take_number(&mut self) -> u64 {
-        let id = self.next;
-        self.next = id.saturating_add(1);
-        id
-    }
-
-    pub(crate) fn put(&mut self, id: u64, link: Link) -> Result<(), OutOfMemory> {
-        self.all.insert(id, link)?;
+    /// Puts in the next link.
+    pub(crate) fn put(&mut self, link: Link) -> Result<(), OutOfMemory> {
+        self.all.insert(self.next, link)?;
+        self.next = self.next.saturating_add(1);
         Ok(())
     }
 
@@ -52,9 +47,7 @@ impl Links {
     /// Who dials whom, and how long bytes are on their way.
     pub(crate) fn ends_of(&self, id: u64) -> Option<(usize, usize, u64)> {
         let link = self.all.get(&id)?;
-        let from = link.end(Side::Dialer).node;
-        let to = link.end(Side::Acceptor).node;
-        Some((from, to, link.latency))
+        Some((link.dialer.node, link.acceptor.node, link.latency))
     }
 
     pub(crate) fn end_mut(&mut self, id: u64, side: Side) -> Option<&mut End> {
@@ -66,7 +59,7 @@ impl Links {
         let is_over = match self.get_mut(id) {
             Some(link) => {
                 link.end_mut(side).is_open = false;
-                link.is_over()
+                !link.dialer.is_open && !link.acceptor.is_open
             }
             None => false,
         };
@@ -75,26 +68,22 @@ impl Links {
         }
     }
 
-    /// Bytes wait at an end until it is admitted.
-    pub(crate) fn keep(&mut self, id: u64, side: Side, bytes: Octets) -> Result<(), OutOfMemory> {
-        if let Some(end) = self.end_mut(id, side) {
-            end.early.push_back(bytes)?;
+    /// Bytes wait until the acceptor has admitted the dialer.
+    pub(crate) fn keep(&mut self, id: u64, bytes: Octets) -> Result<(), OutOfMemory> {
+        if let Some(link) = self.get_mut(id) {
+            link.early.push_back(bytes)?;
         }
         Ok(())
     }
 
-    /// Takes out what waits at the acceptor's end, where it doesn't have to any more.
-    pub(crate) fn take_early(&mut self, id: u64) -> Option<Octets> {
-        self.end_mut(id, Side::Acceptor)?.take_early()
-    }
-
-    /// Adds the numbers of those whose ends are in different parts of the network.
-    pub(crate) fn across(&self, nodes: &Nodes, across: &mut Vec<u64>) -> Result<(), OutOfMemory> {
-        for (id, link) in self.all.iter() {
-            if nodes.parts(link) {
-                across.push(*id)?;
-            }
+    /// The first bytes that wait come to the acceptor, where it has admitted the dialer.
+    pub(crate) fn take_early(&mut self, id: Option<u64>) -> Option<Event> {
+        let link = self.get_mut(id?)?;
+        let cid = link.acceptor.cid?;
+        if !link.acceptor.is_open {
+            return None;
         }
-        Ok(())
+        let bytes = link.early.pop_front()?;
+        Some(Event::Bytes(cid, bytes))
     }
 }

@@ -1,17 +1,26 @@
 use crate::asked::Asked;
 use crate::ground::Ground;
-use crate::seats::Seats;
-use crate::task::Task;
+use crate::seat::Seat;
+use crate::task::{Beginning, Task};
+use crate::trace::Trace;
 use net_base::{Event, OutOfMemory};
 use network_scenario::Scenario;
 use std::alloc::Global;
+use std::collections::BTreeMap;
 use stepper::Stepper;
 
 /// A network, in the middle of what happens to it.
 #[derive(Drop)]
 pub(crate) struct Network<S: Stepper> {
-    pub seats: Seats<S>,
     pub ground: Ground,
+    /// What steps for the nodes that are up and no attacker's.
+    seats: BTreeMap<usize, Seat<S>>,
+    /// What those that begin pick by.
+    stock: Vec<S::Means>,
+    /// The trace of this node is kept.
+    traced: Option<usize>,
+    /// It, once the node has left.
+    trace: Option<Trace>,
 }
 
 impl<S: Stepper> Network<S> {
@@ -23,114 +32,91 @@ impl<S: Stepper> Network<S> {
         stock: Vec<S::Means>,
     ) -> Result<Network<S>, OutOfMemory> {
         let ground = Ground::new(alloc, scenario, asked)?;
-        let seats = Seats::new(alloc, ground.nodes.len(), stock, asked.traced)?;
-        Ok(Network { seats, ground })
+        Ok(Network {
+            ground,
+            seats: BTreeMap::new(alloc),
+            stock,
+            traced: asked.traced,
+            trace: None,
+        })
     }
 
-    /// The next thing happens, and true, where one does before the end.
-    pub(crate) fn turn(&mut self, end: u64) -> Result<bool, OutOfMemory> {
-        let Some(happening) = self.ground.agenda.next(end) else {
-            return Ok(false);
-        };
-        if let Some(task) = self.ground.happen(happening)? {
-            self.fulfil(task)?;
+    /// Things happen up to the end, or until a piece is to be written.
+    pub(crate) fn go_on(&mut self) -> Result<(), OutOfMemory> {
+        for _ in 0..u64::MAX {
+            if self.ground.is_over || self.ground.reporter.pieces.is_full() {
+                break;
+            }
+            self.ground.go_on()?;
+            if let Some(task) = self.ground.task.take() {
+                self.fulfil(task)?;
+            }
         }
-        Ok(true)
+        Ok(())
+    }
+
+    /// The trace that was asked for, up to the end, where one was begun.
+    pub(crate) fn trace_of(&mut self, node: usize) -> Result<Option<Trace>, OutOfMemory> {
+        self.go_on()?;
+        self.end(node)?;
+        Ok(self.trace.take())
     }
 
     fn fulfil(&mut self, task: Task) -> Result<(), OutOfMemory> {
         match task {
-            Task::Give(given) => self.give(given.node, &given.event),
-            Task::Begin(node) => self.begin(node),
-            Task::Govern(node, word) => self.govern(node, word),
-            Task::Welcome(node) => self.welcome(node),
-            Task::Leave(place) => self.leave_some(place),
+            Task::Give(node, moment, event) => {
+                if let Some(moment) = moment {
+                    self.give(node, &Event::Now(moment))?;
+                }
+                self.give(node, &event)
+            }
+            Task::Begin(beginning) => self.begin(&beginning),
+            Task::End(node) => self.end(node),
         }
     }
 
-    // Has a node take an event, after the moment where it is a later one, and does what it asks for.
+    // Has a node take an event, and does what it asks for. A node that takes no more events does nothing.
     fn give(&mut self, index: usize, event: &Event) -> Result<(), OutOfMemory> {
-        if let Some(moment) = self.ground.moment_to_show(index) {
-            self.hand(index, &Event::Now(moment))?;
-        }
-        self.hand(index, event)
-    }
-
-    // Has a node take an event, and does what it asks for.
-    fn hand(&mut self, index: usize, event: &Event) -> Result<(), OutOfMemory> {
-        match self.seats.take(index, event)? {
+        let Some(seat) = self.seats.get_mut(&index) else {
+            return Ok(());
+        };
+        match seat.take(self.ground.alloc, event)? {
             Some(actions) => self.ground.act_all(index, actions.as_slice()),
             None => Ok(()),
         }
     }
 
-    fn begin(&mut self, index: usize) -> Result<(), OutOfMemory> {
-        if let Some((settings, life)) = self.ground.settings_of(index) {
-            self.seats.begin(index, settings, life)?;
-            self.tell_terms(index)?;
-        }
-        self.ground.tick_first(index)
-    }
-
     // A node hears its targets, and then its local roots.
-    fn tell_terms(&mut self, index: usize) -> Result<(), OutOfMemory> {
-        if let Some(targets) = self.ground.targets_of(index) {
-            self.hand(index, &Event::Aims(targets))?;
-        }
-        match self.ground.befriend(index)? {
-            Some(event) => self.hand(index, &event),
+    fn begin(&mut self, beginning: &Beginning) -> Result<(), OutOfMemory> {
+        self.seat(beginning)?;
+        self.give(beginning.node, &Event::Aims(beginning.targets))?;
+        match &beginning.roots {
+            Some(roots) => self.give(beginning.node, roots),
             None => Ok(()),
         }
     }
 
-    fn govern(&mut self, index: usize, word: u64) -> Result<(), OutOfMemory> {
-        self.give(index, &Event::Govern(word))?;
-        self.ground.look(index);
-        self.ground.tick_again(index)
-    }
-
-    // Accepts those that wait, until accepting pauses.
-    fn welcome(&mut self, index: usize) -> Result<(), OutOfMemory> {
-        for _ in 0..u64::MAX {
-            match self.ground.next_caller(index) {
-                Some(link) => self.accept(index, link)?,
-                None => return Ok(()),
-            }
+    // Something steps for a node from now on, where the stock isn't empty. Its trace is kept, where it was asked for, in the
+    // first life of the node.
+    fn seat(&mut self, beginning: &Beginning) -> Result<(), OutOfMemory> {
+        let Some(means) = self.stock.pop() else {
+            return Ok(());
+        };
+        let is_traced = beginning.life == 1 && self.traced == Some(beginning.node);
+        let alloc = self.ground.alloc;
+        if let Some(seat) = Seat::begin(alloc, beginning.settings, means, is_traced)? {
+            self.seats.insert(beginning.node, seat)?;
         }
         Ok(())
     }
 
-    // A node that takes no more events answers nobody.
-    fn accept(&mut self, index: usize, link: u64) -> Result<(), OutOfMemory> {
-        let Some(from) = self.ground.call(link) else {
+    // Nothing steps for a node any more. Its trace stays, where it was kept.
+    fn end(&mut self, node: usize) -> Result<(), OutOfMemory> {
+        let Some(seat) = self.seats.remove(&node) else {
             return Ok(());
         };
-        self.give(index, &Event::Accepted(from))?;
-        self.ground.turn_away()?;
-        self.deliver_early(link)
-    }
-
-    // What came before the node accepted.
-    fn deliver_early(&mut self, link: u64) -> Result<(), OutOfMemory> {
-        for _ in 0..u64::MAX {
-            match self.ground.arrive_early(link)? {
-                Some(given) => self.give(given.node, &given.event)?,
-                None => return Ok(()),
-            }
-        }
-        Ok(())
-    }
-
-    // Some nodes leave, and may come back.
-    fn leave_some(&mut self, place: usize) -> Result<(), OutOfMemory> {
-        let Some(leaving) = self.ground.leaving(place) else {
-            return Ok(());
-        };
-        for index in 0..self.ground.nodes.len() {
-            if self.ground.is_to_leave(index, &leaving) {
-                self.seats.end(index)?;
-                self.ground.leave(index, &leaving)?;
-            }
+        if let Some(trace) = seat.into_trace()? {
+            self.trace = Some(trace);
         }
         Ok(())
     }

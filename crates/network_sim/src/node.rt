@@ -1,7 +1,8 @@
 use crate::addresses::address_of;
 use crate::link::{Hold, Side};
+use crate::measure::Measure;
 use crate::peers::Peers;
-use crate::reached::Reached;
+use crate::reached::{NOTHING_REACHED, Reached};
 use net_base::{Addr, Targets};
 use network_scenario::Role;
 use std::alloc::Global;
@@ -17,9 +18,9 @@ pub(crate) struct Node {
     pub is_up: bool,
     /// How often it began. What was meant for an earlier life of it comes to nothing.
     pub life: u64,
-    begun: u64,
+    pub begun: u64,
     /// The moment that its engine was shown last.
-    shown: u64,
+    pub shown: u64,
     /// Its links by what it calls them.
     pub links: BTreeMap<u64, Hold>,
     /// The links of those that wait to be accepted.
@@ -29,7 +30,7 @@ pub(crate) struct Node {
     /// It is in the smaller part while the network is in two.
     pub is_apart: bool,
     pub peers: Peers,
-    pub reached: Reached,
+    reached: Reached,
 }
 
 impl Node {
@@ -47,7 +48,7 @@ impl Node {
             paused_until: 0,
             is_apart: false,
             peers: Peers::new(alloc),
-            reached: Reached::none(),
+            reached: NOTHING_REACHED,
         }
     }
 
@@ -63,42 +64,13 @@ impl Node {
         self.shown = 0;
         self.paused_until = 0;
         self.peers = Peers::new(alloc);
-        self.reached = Reached::none();
-    }
-
-    // How long it is up.
-    fn age(&self, moment: u64) -> u64 {
-        moment.saturating_sub(self.begun)
-    }
-
-    /// The moment that its engine is to be shown, where it is a later one than that shown last.
-    pub(crate) fn moment_to_show(&mut self, now: u64) -> Option<u64> {
-        let moment = self.age(now);
-        if moment <= self.shown {
-            return None;
-        }
-        self.shown = moment;
-        Some(moment)
+        self.reached = NOTHING_REACHED;
     }
 
     /// Notes what of its targets it has reached.
     pub(crate) fn look(&mut self, now: u64, targets: &Targets) {
-        if !self.reached.is_whole() {
-            let counts = self.peers.counts();
-            self.reached = self.reached.with(self.age(now), &counts, targets);
-        }
-    }
-
-    /// Takes out one of its links, first those of who waits to be accepted.
-    pub(crate) fn take_hold(&mut self) -> Option<Hold> {
-        if let Some(link) = self.callers.pop_front() {
-            return Some(Hold {
-                link,
-                side: Side::Acceptor,
-            });
-        }
-        let (_, hold) = self.links.pop_first()?;
-        Some(hold)
+        let age = now.saturating_sub(self.begun);
+        self.reached = self.reached.with(age, &self.peers, targets);
     }
 
     /// How many of its links it dialed.
@@ -112,11 +84,17 @@ impl Node {
         dialed
     }
 
-    /// Takes out the link of who waits longest to be accepted, where accepting doesn't pause.
-    pub(crate) fn next_caller(&mut self, now: u64) -> Option<u64> {
-        if now < self.paused_until {
-            return None;
+    /// A number that is reported of it, where it has it.
+    pub(crate) fn measure(&self, measure: Measure) -> Option<u64> {
+        match measure {
+            Measure::ReachedKnown => self.reached.known,
+            Measure::ReachedEstablished => self.reached.established,
+            Measure::ReachedActive => self.reached.active,
+            _ if !self.is_up => None,
+            Measure::Known => Some(self.peers.known),
+            Measure::Established => Some(self.peers.established()),
+            Measure::Active => Some(self.peers.hot.len() as u64),
+            Measure::Counted => Some(self.peers.counted.len() as u64),
         }
-        self.callers.pop_front()
     }
 }

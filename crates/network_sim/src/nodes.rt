@@ -1,36 +1,15 @@
 use crate::link::{Hold, Link, Side};
 use crate::node::Node;
 use net_base::{Cid, OutOfMemory};
-use std::alloc::Global;
 
 /// The nodes of a network, and whether it is in two.
 #[derive(Drop)]
 pub(crate) struct Nodes {
-    all: Vec<Node>,
+    pub all: Vec<Node>,
     pub is_parted: bool,
 }
 
 impl Nodes {
-    pub(crate) fn new(alloc: Global) -> Nodes {
-        Nodes {
-            all: Vec::new(alloc),
-            is_parted: false,
-        }
-    }
-
-    pub(crate) fn push(&mut self, node: Node) -> Result<(), OutOfMemory> {
-        self.all.push(node)?;
-        Ok(())
-    }
-
-    pub(crate) fn len(&self) -> usize {
-        self.all.len()
-    }
-
-    pub(crate) fn as_slice(&self) -> &[Node] {
-        self.all.as_slice()
-    }
-
     pub(crate) fn get(&self, index: usize) -> Option<&Node> {
         self.all.get(index)
     }
@@ -71,20 +50,15 @@ impl Nodes {
 
     /// The ends of a link are in different parts.
     pub(crate) fn parts(&self, link: &Link) -> bool {
-        let from = link.end(Side::Dialer).node;
-        let to = link.end(Side::Acceptor).node;
-        self.are_apart(from, to)
+        self.are_apart(link.dialer.node, link.acceptor.node)
     }
 
     /// The end of a link is a node's connection of this id from now on.
     pub(crate) fn hold(&mut self, index: usize, cid: Cid, hold: Hold) -> Result<(), OutOfMemory> {
-        match self.get_mut(index) {
-            Some(node) => {
-                node.links.insert(cid.0, hold)?;
-                Ok(())
-            }
-            None => Ok(()),
+        if let Some(node) = self.get_mut(index) {
+            node.links.insert(cid.0, hold)?;
         }
+        Ok(())
     }
 
     pub(crate) fn hold_of(&self, index: usize, cid: Cid) -> Option<Hold> {
@@ -95,5 +69,26 @@ impl Nodes {
         if let Some(node) = self.get_mut(index) {
             node.links.remove(&cid.0);
         }
+    }
+
+    /// Who dialed a node waits to be accepted.
+    pub(crate) fn wait(&mut self, index: usize, link: u64) -> Result<(), OutOfMemory> {
+        if let Some(node) = self.get_mut(index) {
+            node.callers.push_back(link)?;
+        }
+        Ok(())
+    }
+
+    /// Takes out one of a node's links, first those of who waits to be accepted.
+    pub(crate) fn take_hold(&mut self, index: usize) -> Option<Hold> {
+        let node = self.get_mut(index)?;
+        if let Some(link) = node.callers.pop_front() {
+            return Some(Hold {
+                link,
+                side: Side::Acceptor,
+            });
+        }
+        let (_, hold) = node.links.pop_first()?;
+        Some(hold)
     }
 }

@@ -1,4 +1,4 @@
-use crate::peers::Counts;
+use crate::peers::Peers;
 use net_base::Targets;
 
 /// When a node had as many peers as wanted for the first time, each in milliseconds since it began.
@@ -9,30 +9,25 @@ pub(crate) struct Reached {
     pub active: Option<u64>,
 }
 
+pub(crate) const NOTHING_REACHED: Reached = Reached {
+    known: None,
+    established: None,
+    active: None,
+};
+
 impl Reached {
-    pub(crate) fn none() -> Reached {
-        Reached {
-            known: None,
-            established: None,
-            active: None,
-        }
-    }
-
-    pub(crate) fn is_whole(&self) -> bool {
-        self.known.is_some() && self.established.is_some() && self.active.is_some()
-    }
-
     /// With what is reached now.
-    pub(crate) fn with(&self, age: u64, counts: &Counts, targets: &Targets) -> Reached {
+    pub(crate) fn with(&self, age: u64, peers: &Peers, targets: &Targets) -> Reached {
+        let active = peers.hot.len() as u64;
         Reached {
-            known: first(self.known, age, counts.known, targets.known),
+            known: first(self.known, age, peers.known, targets.known),
             established: first(
                 self.established,
                 age,
-                counts.established,
+                peers.established(),
                 targets.established,
             ),
-            active: first(self.active, age, counts.active, targets.active),
+            active: first(self.active, age, active, targets.active),
         }
     }
 }

@@ -1,15 +1,14 @@
-use crate::active::Active;
 use crate::asked::Asked;
-use crate::census::{Census, Spread};
 use crate::draws::Draws;
-use crate::goal::Goal;
 use crate::graph::Graph;
+use crate::measure::Measure;
 use crate::node::Node;
 use crate::nodes::Nodes;
+use crate::spread::Spread;
 use io_edge::PieceWriter;
 use net_base::{OutOfMemory, Targets};
 use network_scenario::Kind;
-use std::alloc::{AllocError, Global};
+use std::alloc::Global;
 
 const SECOND: u64 = 1_000;
 
@@ -31,9 +30,9 @@ pub(crate) struct Reporter {
     samples: Draws,
     /// What is written next.
     pub pieces: PieceWriter,
-    // How many events and bytes there were since the last report.
-    events: u64,
-    bytes: u64,
+    /// How many events and bytes there were since the last report.
+    pub events: u64,
+    pub bytes: u64,
 }
 
 impl Reporter {
@@ -50,14 +49,6 @@ impl Reporter {
         })
     }
 
-    pub(crate) fn count_event(&mut self) {
-        self.events = self.events.saturating_add(1);
-    }
-
-    pub(crate) fn count_bytes(&mut self, count: usize) {
-        self.bytes = self.bytes.saturating_add(count as u64);
-    }
-
     /// A line of each kind and one of the network, where no trace is written.
     pub(crate) fn report(
         &mut self,
@@ -72,7 +63,9 @@ impl Reporter {
         for (place, kind) in kinds.iter().enumerate() {
             self.report_kind(seconds, place, kind, nodes)?;
         }
-        self.report_network(seconds, nodes)
+        let mut graph = Graph::new(self.alloc);
+        graph.draw(nodes)?;
+        self.report_graph(seconds, &mut graph)
     }
 
     fn report_kind(
@@ -82,65 +75,34 @@ impl Reporter {
         kind: &Kind,
         nodes: &Nodes,
     ) -> Result<(), OutOfMemory> {
-        let mut census = Census::new(self.alloc);
-        count_all(place, nodes, &mut census)?;
-        self.report_census(seconds, kind, &mut census)
-    }
-
-    fn report_census(
-        &mut self,
-        seconds: u64,
-        kind: &Kind,
-        census: &mut Census,
-    ) -> Result<(), OutOfMemory> {
-        let spreads = census.spreads()?;
-        let line = self.kind_line(seconds, kind, census.up, &spreads)?;
+        let known = Spread::of(self.alloc, nodes, place, Measure::Known)?;
+        let established = Spread::of(self.alloc, nodes, place, Measure::Established)?;
+        let active = Spread::of(self.alloc, nodes, place, Measure::Active)?;
+        let counted = Spread::of(self.alloc, nodes, place, Measure::Counted)?;
+        let targets = &kind.targets;
+        let line = format!(in self.alloc;
+            "kind {seconds} {} up {} known {known} {} established {established} {} active {active} {} inbound {counted} {}",
+            kind.name.as_str(),
+            known.count,
+            targets.known,
+            targets.established,
+            targets.active,
+            kind.settings.hard
+        )?;
         self.pieces.push_line(line.as_bytes())
     }
 
-    fn kind_line(
-        &self,
-        seconds: u64,
-        kind: &Kind,
-        up: u64,
-        spreads: &[Spread; 4],
-    ) -> Result<String, AllocError> {
-        let [known, established, active, counted] = spreads;
-        let Targets {
-            known: known_target,
-            established: established_target,
-            active: active_target,
-            ..
-        } = kind.targets;
-        format!(in self.alloc;
-            "kind {seconds} {} up {up} known {known} {known_target} established {established} {established_target} active {active} {active_target} inbound {counted} {}",
-            kind.name.as_str(),
-            kind.settings.hard
-        )
-    }
-
-    fn report_network(&mut self, seconds: u64, nodes: &Nodes) -> Result<(), OutOfMemory> {
-        let mut graph = Graph::new(self.alloc, nodes.len())?;
-        draw_into(nodes, &mut graph)?;
-        self.report_graph(seconds, &graph, Active::of(nodes))
-    }
-
-    fn report_graph(
-        &mut self,
-        seconds: u64,
-        graph: &Graph,
-        active: Active,
-    ) -> Result<(), OutOfMemory> {
+    fn report_graph(&mut self, seconds: u64, graph: &mut Graph) -> Result<(), OutOfMemory> {
         let pieces = graph.pieces()?;
         let diameter = self.diameter(graph)?;
         let line = format!(in self.alloc;
             "network {seconds} up {} pieces {} alone {} largest {} diameter {diameter} active {} attackers {} events {} bytes {}",
-            graph.len(),
+            graph.members.len(),
             pieces.pieces,
             pieces.alone,
             pieces.largest,
-            active.all,
-            active.attackers,
+            graph.active,
+            graph.attackers,
             self.events,
             self.bytes
         )?;
@@ -149,10 +111,10 @@ impl Reporter {
         self.pieces.push_line(line.as_bytes())
     }
 
-    fn diameter(&mut self, graph: &Graph) -> Result<u64, OutOfMemory> {
+    fn diameter(&mut self, graph: &mut Graph) -> Result<u64, OutOfMemory> {
         let mut greatest = 0;
         for _ in 0..SAMPLES {
-            if let Some(member) = self.samples.place(graph.len()) {
+            if let Some(member) = self.samples.place(graph.members.len()) {
                 greatest = graph.depth_from(member)?.max(greatest);
             }
         }
@@ -165,23 +127,60 @@ impl Reporter {
         kinds: &[Kind],
         nodes: &Nodes,
     ) -> Result<(), OutOfMemory> {
+        if self.is_silent {
+            return Ok(());
+        }
         for (place, kind) in kinds.iter().enumerate() {
             self.report_goals(place, kind, nodes)?;
         }
-        if nodes.len() > DRAWN_MOST {
+        if nodes.all.len() > DRAWN_MOST {
             return Ok(());
         }
-        for (place, node) in nodes.as_slice().iter().enumerate() {
-            self.report_uses(place, node)?;
+        for (place, node) in nodes.all.iter().enumerate() {
+            if node.is_up {
+                self.report_uses(place, node)?;
+            }
         }
         Ok(())
     }
 
+    fn report_goals(
+        &mut self,
+        place: usize,
+        kind: &Kind,
+        nodes: &Nodes,
+    ) -> Result<(), OutOfMemory> {
+        self.report_goal(place, kind, nodes, "known", Measure::ReachedKnown)?;
+        self.report_goal(
+            place,
+            kind,
+            nodes,
+            "established",
+            Measure::ReachedEstablished,
+        )?;
+        self.report_goal(place, kind, nodes, "active", Measure::ReachedActive)
+    }
+
+    fn report_goal(
+        &mut self,
+        place: usize,
+        kind: &Kind,
+        nodes: &Nodes,
+        goal: &str,
+        measure: Measure,
+    ) -> Result<(), OutOfMemory> {
+        let times = Spread::of(self.alloc, nodes, place, measure)?;
+        let line = format!(in self.alloc;
+            "reached {} {goal} {} {} {times}",
+            kind.name.as_str(),
+            times.count,
+            kind.count
+        )?;
+        self.pieces.push_line(line.as_bytes())
+    }
+
     // Whom a node uses.
     fn report_uses(&mut self, place: usize, node: &Node) -> Result<(), OutOfMemory> {
-        if !node.is_up {
-            return Ok(());
-        }
         for peer in node.peers.hot.iter() {
             self.report_use(place, *peer)?;
         }
@@ -192,95 +191,4 @@ impl Reporter {
         let line = format!(in self.alloc; "uses {place} {peer}")?;
         self.pieces.push_line(line.as_bytes())
     }
-
-    fn report_goals(
-        &mut self,
-        place: usize,
-        kind: &Kind,
-        nodes: &Nodes,
-    ) -> Result<(), OutOfMemory> {
-        self.report_goal(place, kind, nodes, Goal::Known)?;
-        self.report_goal(place, kind, nodes, Goal::Established)?;
-        self.report_goal(place, kind, nodes, Goal::Active)
-    }
-
-    fn report_goal(
-        &mut self,
-        place: usize,
-        kind: &Kind,
-        nodes: &Nodes,
-        goal: Goal,
-    ) -> Result<(), OutOfMemory> {
-        let mut times = Vec::new(self.alloc);
-        take_times(place, nodes, goal, &mut times)?;
-        self.report_times(kind, goal, &mut times)
-    }
-
-    fn report_times(
-        &mut self,
-        kind: &Kind,
-        goal: Goal,
-        times: &mut Vec<u64>,
-    ) -> Result<(), OutOfMemory> {
-        let count = times.len();
-        let spread = Spread::of(times)?;
-        let line = format!(in self.alloc;
-            "reached {} {} {count} {} {spread}",
-            kind.name.as_str(),
-            goal.text(),
-            kind.count
-        )?;
-        self.pieces.push_line(line.as_bytes())
-    }
-}
-
-fn count_all(place: usize, nodes: &Nodes, census: &mut Census) -> Result<(), OutOfMemory> {
-    for node in nodes.as_slice() {
-        if node.kind == place && node.is_up {
-            census.count(&node.peers.counts())?;
-        }
-    }
-    Ok(())
-}
-
-// The nodes that are up and no attacker's, and whom of them each uses.
-fn draw_into(nodes: &Nodes, graph: &mut Graph) -> Result<(), OutOfMemory> {
-    for (place, node) in nodes.as_slice().iter().enumerate() {
-        if node.is_up && node.is_honest() {
-            graph.count(place)?;
-            join_all(place, node, nodes, graph)?;
-        }
-    }
-    Ok(())
-}
-
-fn join_all(
-    place: usize,
-    node: &Node,
-    nodes: &Nodes,
-    graph: &mut Graph,
-) -> Result<(), OutOfMemory> {
-    for peer in node.peers.hot.iter() {
-        if nodes.is_honest(*peer) && nodes.is_up(*peer) {
-            graph.join(place, *peer)?;
-        }
-    }
-    Ok(())
-}
-
-// When the nodes of a kind reached a goal, of those that did.
-fn take_times(
-    place: usize,
-    nodes: &Nodes,
-    goal: Goal,
-    times: &mut Vec<u64>,
-) -> Result<(), OutOfMemory> {
-    for node in nodes.as_slice() {
-        if node.kind == place {
-            if let Some(time) = goal.time(&node.reached) {
-                times.push(time)?;
-            }
-        }
-    }
-    Ok(())
 }

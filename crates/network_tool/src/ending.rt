@@ -29,17 +29,15 @@ impl Ending {
 
 impl fmt::Display for Ending {
     fn fmt<W: fmt::Write>(&self, f: &mut fmt::Formatter<W>) -> fmt::Result {
-        match self {
-            Ending::Ran(RunEnd::Done) => Ok(()),
-            Ending::Usage => writeln!(f, "usage: FILE SEED SECONDS | FILE SEED trace NODE"),
-            Ending::Ran(RunEnd::NoTrace) => writeln!(
-                f,
-                "no trace: no engine stepped for this node"
-            ),
-            Ending::Ran(RunEnd::WriteFault) => writeln!(f, "write fault"),
-            Ending::Ran(RunEnd::OutOfMemory) | Ending::OutOfMemory => writeln!(f, "out of memory"),
-            Ending::FileFault => writeln!(f, "the file could not be read"),
-            Ending::Refused(refusal) => writeln!(f, "bad scenario: {refusal}"),
-        }
+        let text = match self {
+            Ending::Ran(RunEnd::Done) => "",
+            Ending::Usage => "usage: FILE SEED SECONDS | FILE SEED trace NODE\n",
+            Ending::Ran(RunEnd::NoTrace) => "no trace: no engine stepped for this node\n",
+            Ending::Ran(RunEnd::WriteFault) => "write fault\n",
+            Ending::Ran(RunEnd::OutOfMemory) | Ending::OutOfMemory => "out of memory\n",
+            Ending::FileFault => "the file could not be read\n",
+            Ending::Refused(refusal) => return writeln!(f, "bad scenario: {refusal}"),
+        };
+        f.write_str(text)
     }
 }

@@ -4,6 +4,10 @@ use std::env;
 use std::io::ErrorKind;
 use std::rt::Env;
 
+const SECONDS_MOST: u64 = 86_400;
+
+const NODES_MOST: u64 = 10_000_000;
+
 /// What the words of the command line ask for.
 #[derive(Clone, Copy)]
 pub(crate) struct Wanted<'a> {
@@ -22,44 +26,27 @@ pub(crate) fn command_words<R: Env + AllocGlobal>(rt: &R) -> Result<Vec<String>,
 
 /// What they ask for, if it is anything.
 pub(crate) fn wanted_by(words: &[String]) -> Option<Wanted<'_>> {
-    match words {
-        [file, seed, seconds] => {
-            let asked = report(seed.as_str(), seconds.as_str())?;
-            Some(Wanted {
-                file: file.as_str(),
-                asked,
-            })
-        }
+    let (file, seed, seconds, traced) = match words {
+        [file, seed, seconds] => (file, seed, number(seconds, SECONDS_MOST)?, None),
         [file, seed, trace, node] if trace.as_str() == "trace" => {
-            let asked = traced(seed.as_str(), node.as_str())?;
-            Some(Wanted {
-                file: file.as_str(),
-                asked,
-            })
+            let node = number(node, NODES_MOST)?;
+            (file, seed, SECONDS_MOST, Some(node as usize))
         }
-        _ => None,
-    }
-}
-
-fn report(seed: &str, seconds: &str) -> Option<Asked> {
-    let seed = read_number(seed.as_bytes(), u64::MAX)?;
-    let seconds = read_number(seconds.as_bytes(), 86_400)?;
+        _ => return None,
+    };
     if seconds == 0 {
         return None;
     }
-    Some(Asked {
-        seed,
-        every: seconds.saturating_mul(1_000),
-        traced: None,
+    Some(Wanted {
+        file: file.as_str(),
+        asked: Asked {
+            seed: number(seed, u64::MAX)?,
+            every: seconds.saturating_mul(1_000),
+            traced,
+        },
     })
 }
 
-fn traced(seed: &str, node: &str) -> Option<Asked> {
-    let seed = read_number(seed.as_bytes(), u64::MAX)?;
-    let node = read_number(node.as_bytes(), 10_000_000)?;
-    Some(Asked {
-        seed,
-        every: 86_400_000,
-        traced: Some(node as usize),
-    })
+fn number(word: &String, most: u64) -> Option<u64> {
+    read_number(word.as_str().as_bytes(), most)
 }
