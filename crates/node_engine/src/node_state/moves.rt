@@ -3,11 +3,11 @@ mod dials;
 mod ending;
 mod found;
 mod grace;
-mod peers;
+mod notices;
 mod sends;
 mod trim;
 mod turns;
 mod uses;
 
-pub(crate) use peers::tell_known;
+pub(crate) use notices::tell_known;
 pub(crate) use sends::{INITIATOR, RESPONDER};
