@@ -1,8 +1,8 @@
 -- Where a connection stands in the order of ids, and what a change there leaves.
-use Rattle.std.proofs.Common.{◌≡◌, ℕ, suc, zero, ◌+◌, ◌<◌, ◌≤◌, nat_lt, Bool, true, false, cond, if◌then◌else◌, List, [], ◌∷◌, ◌++◌, map, length, get_or, set, Option, Some, None, slice_get, refl, sym, subst, ap, ◌∙◌, inl, inr, arith}
+use Rattle.std.proofs.Common.{◌≡◌, ℕ, suc, zero, ◌+◌, ◌<◌, ◌≤◌, nat_lt, Bool, true, false, cond, if◌then◌else◌, List, [], ◌∷◌, ◌++◌, map, length, get_or, set, Option, Some, None, is_some, slice_get, refl, sym, subst, ap, ◌∙◌, inl, inr, arith}
 use Rattle.std.specs.List.{prefix_len, filter, remove, count_by}
 use Rattle.std.specs.List.Sorted.{IsPartitionedBy}
-use Rattle.std.proofs.lemmas.Bool.{cases_Bool, cases_order}
+use Rattle.std.proofs.lemmas.Bool.{cases_Bool, cases_order, false≢true}
 use Rattle.std.proofs.lemmas.Bool.Decides.{nat_tests}
 use Rattle.std.proofs.lemmas.List.Sums.{sum_by-cons}
 use Rattle.net_base.specs.declared.connection.Facts.{Facts}
@@ -149,6 +149,18 @@ place-get above most (g ∷ gs) zero f rises found = rw (is_found g f found, ove
 place-get above most (g ∷ gs) (suc place) f rises found =
     rw (under_above f g (above_get g.cid.0 most gs place f rises.1 found), one_more (id_place f.cid.0 gs))
     (ap (λ n. suc n) (place-get g.cid.0 most gs place f rises.1 found))
+
+-- where the one with an id is found, it stands
+pub place-found : (cid above most : ℕ) (fs : List Facts) (place : ℕ) → IdsRise above most fs → is_some (found_with cid (slice_get fs place)) ≡ true →
+    place ≡ id_place cid fs
+place-found cid above most fs place rises there = by_look (slice_get fs place) refl there
+  where
+    by_look : (o : Option Facts) → slice_get fs place ≡ o → is_some (found_with cid o) ≡ true → place ≡ id_place cid fs
+    by_look None at h = absurd (false≢true h)
+    by_look (Some f) at h = elim (cases_Bool (has_id cid f)) [
+      | inl here ↦ sym (place-get above most fs place f rises at) ∙ ap (λ n. id_place n fs) (has_id_is cid f here)
+      | inr other ↦ absurd (false≢true (rw other at h))
+    ]
 
 pub found-get : (above most : ℕ) (fs : List Facts) (place : ℕ) (f : Facts) → IdsRise above most fs → slice_get fs place ≡ Some f →
     facts_at f.cid.0 fs ≡ Some f

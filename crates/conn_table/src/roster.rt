@@ -1,4 +1,5 @@
-ghost use Rattle.std.specs.Prelude.{◌≡◌, ◌+◌, ◌++◌, ◌∷◌, ◌<◌, ◌^◌, [], length, Some, None, OnOk, OnErr, IsSome, IsSomeAnd, slice_get, ℕ, if◌then◌else◌};
+ghost use Rattle.std.specs.Prelude.{◌≡◌, ◌+◌, ◌++◌, ◌∷◌, ◌<◌, ◌^◌, [], is_some, length, Some, None, OnOk, OnErr, IsSome, IsSomeAnd, slice_get, ℕ, if◌then◌else◌};
+ghost use Rattle.std.specs.Option.{option_copied};
 ghost use Rattle.conn_state.specs.State.{facts_of};
 ghost use Rattle.conn_state.specs.Use.{facts_at, live_at};
 ghost use Rattle.conn_table.specs.Answers.{any_at, any_acquirable, may_acquire};
@@ -26,6 +27,8 @@ pub struct Roster {
     pub counted: u64,
     /// How many ids were given.
     pub given: u64,
+    /// Where a connection stood that something happened to: the next look for one begins there. Any number will do.
+    pub recent: usize,
 }
 
 impl Roster {
@@ -42,13 +45,14 @@ impl Roster {
             index: PlacedList::new(alloc),
             counted: 0,
             given: 0,
+            recent: 0,
         }
     }
 
     /// What is known of the connection with an id. None where there is none.
-    pub fn facts(&self, cid: Cid) -> Option<Facts>
+    pub fn facts(&self, cid: Cid) -> Option<&Facts>
         requires { IsKept self.now }
-        ensures { result ≡ facts_at cid.0 (facts_kept self.now) }
+        ensures { option_copied result ≡ facts_at cid.0 (facts_kept self.now) }
     {
         self.facts_there(self.place_of(cid), cid)
     }
@@ -143,6 +147,7 @@ impl Roster {
         let new = stepped(old, step);
         self.counted = recounted(self.counted, is_counted(&was), is_counted(new.as_facts()));
         self.states.replace(place, new);
+        self.recent = place;
         was
     }
 
@@ -179,16 +184,29 @@ impl Roster {
         requires { IsKept self.now }
         ensures { result ≡ id_place cid.0 (facts_kept self.now) }
     {
+        if self.is_recent(cid) {
+            return self.recent;
+        }
         self.states
             .partition_point(|state| state.as_facts().cid < cid)
     }
 
+    // Whether the connection at the place where a look begins has an id.
+    fn is_recent(&self, cid: Cid) -> bool
+        ensures { result ≡ is_some (found_with cid.0 (slice_get (facts_kept self.now) self.now.recent)) }
+    {
+        match self.states.get(self.recent) {
+            Some(state) => state.as_facts().cid == cid,
+            None => false,
+        }
+    }
+
     // What is known of the connection at a place, where it has an id.
-    fn facts_there(&self, place: usize, cid: Cid) -> Option<Facts>
-        ensures { result ≡ found_with cid.0 (slice_get (facts_kept self.now) place) }
+    fn facts_there(&self, place: usize, cid: Cid) -> Option<&Facts>
+        ensures { option_copied result ≡ found_with cid.0 (slice_get (facts_kept self.now) place) }
     {
         let facts = self.states.get(place)?.as_facts();
-        if facts.cid == cid { Some(*facts) } else { None }
+        if facts.cid == cid { Some(facts) } else { None }
     }
 }
 

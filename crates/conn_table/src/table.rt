@@ -177,7 +177,7 @@ impl ConnTable {
     pub fn facts(&self, cid: Cid) -> Option<Facts>
         ensures { result ≡ facts_at cid.0 self.now.facts }
     {
-        self.roster.facts(cid)
+        self.roster.facts(cid).copied()
     }
 
     /// The id of the live connection with an address. None where there is none.

@@ -11,7 +11,7 @@ use Rattle.govern_rules.specs.declared.link.Link.{Link}
 use Rattle.govern_rules.proofs.FoundMembers.{filter-twice, filter-same}
 use Rattle.timer_queue.proofs.Rising.{never_both, below_is_other, above_is_other, any-above, taken_out-above, replaced-above, above_when_same, above_when_not_below, AllAbove-filter, found, find-place, any-find}
 use Rattle.connections.specs.Linked.{place_of, AreInOrder, stands_at, link_at, with_new, with_link, without_link, counted_anew}
-use Rattle.connections.proofs.LinkEdits.{placed_order, row_of, in_order-without}
+use Rattle.connections.proofs.LinkEdits.{placed_order, row_of, in_order-without, all_stay}
 
 abbrev AreAbove : Placed → List Link → Type 0
 AreAbove placed links = AllByRecursion (λ l. placed_below placed (place_of l) ≡ true) links
@@ -85,13 +85,19 @@ put_again new (l ∷ ls) rises there = elim (cases_Bool (placed_below (place_of 
 
 -- ---- what is kept
 
-pub counted-enrolled : (new : Link) (links counted : List Link) → is_counted new ≡ false → counted ≡ filter is_counted links →
-    counted ≡ filter is_counted (with_new new links)
-counted-enrolled new links counted fails is = is ∙ sym (filter-none_new is_counted new links fails)
-
 pub counted-left : (placed : Placed) (links counted : List Link) → counted ≡ filter is_counted links →
     without_link placed counted ≡ filter is_counted (without_link placed links)
 counted-left placed links counted is = ap (without_link placed) is ∙ sym (filter-without is_counted placed links)
+
+pub counted-entered : (new : Link) (links counted : List Link) → AreInOrder links → stands_at (place_of new) links ≡ false → counted ≡ filter is_counted links →
+    counted_anew new counted ≡ filter is_counted (with_new new links)
+counted-entered new links counted rises absent is =
+    let same : without_link (place_of new) counted ≡ filter is_counted links =
+    counted-left (place_of new) links counted is ∙ ap (filter is_counted) (all_stay (place_of new) links absent) in
+    elim (cases_Bool (is_counted new)) [
+      | inl counts ↦ rw counts (ap (with_new new) same ∙ sym (filter-new is_counted new links counts rises))
+      | inr other ↦ rw other (same ∙ sym (filter-none_new is_counted new links other))
+    ]
 
 pub counted-set : (new : Link) (links counted : List Link) → AreInOrder links → stands_at (place_of new) links ≡ true → counted ≡ filter is_counted links →
     counted_anew new counted ≡ filter is_counted (with_link new links)

@@ -1,7 +1,8 @@
 pub mod CountedLinks
 pub mod LinkEdits
 pub mod LinkedTurns
-pub mod Retimed
+pub mod Reading
+mod Retimed
 pub mod TalkFeeds
 pub mod TalkFinds
 pub mod OrderTurns

@@ -1,5 +1,5 @@
 -- The links are those of the connections: that is so after each change of a connection.
-use Rattle.std.proofs.Common.{◌≡◌, Bool, true, false, not, cond, ◌&&◌, ◌||◌, List, [], ◌∷◌, ◌++◌, map, find, Option, Some, None, IsSome, IsSomeAnd, refl, sym, ap, subst, ◌∙◌, inl, inr, arith}
+use Rattle.std.proofs.Common.{◌≡◌, Bool, true, false, not, cond, ◌&&◌, ◌||◌, List, [], ◌∷◌, ◌++◌, map, find, Option, Some, None, IfSome, IsSome, IsSomeAnd, refl, sym, ap, subst, ◌∙◌, inl, inr, arith}
 use Rattle.std.specs.List.{AllByRecursion, list_any}
 use Rattle.std.specs.Option.{option_map}
 use Rattle.std.proofs.lemmas.Bool.{cases_Bool, or_parts, and_right, true≢false}
@@ -24,7 +24,7 @@ use Rattle.timer_queue.specs.Queue.{Queue}
 use Rattle.timer_queue.specs.Timers.{same_cid, cid_below}
 use Rattle.timer_queue.proofs.Orders.{cid_order}
 use Rattle.timer_queue.proofs.Rising.{find-replaced}
-use Rattle.connections.specs.Linked.{links_in, place_of, stands_at, HaveSameLinks, blank, with_new, with_link, without_link, IsLinked, IsLinkedWith, IsLinkedBut}
+use Rattle.connections.specs.Linked.{links_in, place_of, stands_at, HaveSameLinks, with_new, with_link, without_link, IsLinked, IsLinkedWith, IsLinkedBut, IsLinkedIf}
 use Rattle.connections.specs.Standing.{Standing, entry_with, turned, come, gone, Turns}
 use Rattle.connections.specs.Timed.{ids_in, IsTimed}
 use Rattle.connections.proofs.LinkEdits.{placed_order, any-new, stands-new, any-with_link, same-with_link, same-without_link, left_again}
@@ -158,6 +158,11 @@ has_link cid s links e link but found is =
     let right : IsLinkedWith (link_of e) s links = subst (λ o. IsSomeAnd o (λ x. IsLinkedWith (link_of x) s links)) found but in
     ap (λ (l : Link). stands_at (place_of l) links) is ∙ right.there
 
+-- it stands there already
+pub linked_still : (seen : Link) (cid : Cid) (s : Standing) (links : List Link) (e : Entry) → IsLinkedIf seen cid s links → entry_with cid.0 s ≡ Some e →
+    seen ≡ link_of e → IsLinked s links
+linked_still seen cid s links e if found is = if_found (λ x. seen ≡ link_of x → IsLinked s links) (entry_with cid.0 s) e found if is
+
 -- ---- its link stays
 
 links-same : (new old : Entry) (es : List Entry) → link_of new ≡ link_of old → find (λ e. has_id new.facts.cid.0 e.facts) es ≡ Some old →
@@ -177,6 +182,32 @@ links-same new old (e ∷ es) same found rises = elim (cases_Bool (same_cid e.fa
     stays (x ∷ xs) above =
         let other : same_cid x.facts.cid new.facts.cid ≡ false = grind (arith, nat_tests, above.0) in
         rw other (ap (λ l. link_of x ∷ l) (stays xs above.1))
+
+-- where what is seen of it is what was seen, the links stay
+pub linked_if : (cid : Cid) (change : Entry → Entry) (seen : Link) (old new : Standing) (queue : Queue) (links : List Link) → IsTimed old queue →
+    IsLinked old links → IsSome (entry_with cid.0 old) → ((e : Entry) → (change e).facts.cid ≡ e.facts.cid) →
+    IfSome (entry_with cid.0 old) (λ e. seen ≡ link_of e) → Turns cid.0 change old new → IsLinkedIf seen cid new links
+linked_if cid change seen old new queue links timed linked there keeps was turns =
+    let it = found_one (entry_with cid.0 old) there in
+    let e : Entry = change it.0 in
+    let is : new ≡ turned e old = if_found (λ x. new ≡ turned (change x) old) (entry_with cid.0 old) it.0 it.1 turns in
+    let before : seen ≡ link_of it.0 = if_found (λ x. seen ≡ link_of x) (entry_with cid.0 old) it.0 it.1 was in
+    let own : e.facts.cid ≡ cid = keeps it.0 ∙ own_id cid old.entries it.0 it.1 in
+    let found : entry_with e.facts.cid.0 old ≡ Some it.0 = ap (λ (c : Cid). entry_with c.0 old) own ∙ it.1 in
+    let now : entry_with cid.0 (turned e old) ≡ Some e =
+    ap (λ (c : Cid). entry_with c.0 (turned e old)) (sym own)
+    ∙ find-replaced cid_below same_cid cid_order id_of e.facts.cid e old.entries (cid_order.same_itself e.facts.cid)
+    (sym (stands_as e.facts.cid old.entries) ∙ subst IsSome (sym found) refl) in
+    subst (λ s. IsLinkedIf seen cid s links) (sym is)
+    (subst (λ o. IfSome o (λ x. seen ≡ link_of x → IsLinked (turned e old) links)) (sym now) (λ same.
+    subst (HaveSameLinks links)
+    (sym (links-same e it.0 old.entries (sym same ∙ before) found (ids-rise old queue timed))) linked))
+
+pub moved_if : (cid : Cid) (P : Entry → Type 0) (change : Entry → Entry) (seen : Link) (s old new : Standing) (queue : Queue) (links : List Link) →
+    IsTimed old queue → IsLinked old links → old ≡ s → IsSomeAnd (entry_with cid.0 s) P → ((e : Entry) → (change e).facts.cid ≡ e.facts.cid) →
+    IfSome (entry_with cid.0 old) (λ e. seen ≡ link_of e) → Turns cid.0 change old new → IsLinkedIf seen cid new links
+moved_if cid P change seen s old new queue links timed linked is asked keeps was turns =
+    linked_if cid change seen old new queue links timed linked (stands_in cid s old is (some_of P (entry_with cid.0 s) asked)) keeps was turns
 
 pub linked_same : (cid : Cid) (change : Entry → Entry) (old new : Standing) (queue : Queue) (links : List Link) → IsTimed old queue → IsLinked old links →
     IsSome (entry_with cid.0 old) → ((e : Entry) → link_of (change e) ≡ link_of e) → Turns cid.0 change old new → IsLinked new links
@@ -202,56 +233,22 @@ pub no_link : (placed : Placed) (s : Standing) (links : List Link) → IsLinked 
     stands_at placed links ≡ false
 no_link placed s links linked below = linked (λ l. same_placed (place_of l) placed) ∙ absent_id placed s.entries below
 
-found_last : (new : Entry) (es : List Entry) → AllByRecursion (λ c. cid_below c new.facts.cid ≡ true) (map id_of es) →
+pub found_last : (new : Entry) (es : List Entry) → AllByRecursion (λ c. cid_below c new.facts.cid ≡ true) (map id_of es) →
     find (λ e. has_id new.facts.cid.0 e.facts) (es ++ new ∷ []) ≡ Some new
 found_last new [] below = rw (cid_order.same_itself new.facts.cid) refl
 found_last new (e ∷ es) below =
     let other : same_cid e.facts.cid new.facts.cid ≡ false = grind (arith, nat_tests, below.0) in
     rw other (found_last new es below.1)
 
--- a link in place of one that was new is new
-any-renewed : (test : Link → Bool) (first link : Link) (links : List Link) → place_of first ≡ place_of link → stands_at (place_of link) links ≡ false →
-    list_any test (with_link link (with_new first links)) ≡ (test link || list_any test links)
-any-renewed test first link links same absent =
-    let at : Link → Bool = λ l. same_placed (place_of l) (place_of link) in
-    let rest : Link → Bool = λ l. not (at l) && test l in
-    let own : at first ≡ true = ap (λ (p : Placed). same_placed p (place_of link)) same ∙ itself (place_of link) in
-    let there : stands_at (place_of link) (with_new first links) ≡ true = any-new at first links ∙ ap (λ b. b || list_any at links) own in
-    let others : list_any rest (with_new first links) ≡ list_any rest links =
-    any-new rest first links ∙ ap (λ b. (not b && test first) || list_any rest links) own in
-    any-with_link test link (with_new first links)
-    ∙ (ap (λ b. (b && test link) || list_any rest (with_new first links)) there
-    ∙ ap (λ b. test link || b) (others ∙ all_others links absent))
-  where
-    itself : (p : Placed) → same_placed p p ≡ true
-    itself p = placed_order.same_itself p
-
-    all_others : (ls : List Link) → stands_at (place_of link) ls ≡ false →
-        list_any (λ l. not (same_placed (place_of l) (place_of link)) && test l) ls ≡ list_any test ls
-    all_others [] none = refl
-    all_others (l ∷ ls) none =
-        let parts = or_parts (same_placed (place_of l) (place_of link)) (stands_at (place_of link) ls) none in
-        ap (λ b. (not b && test l) || list_any (λ k. not (same_placed (place_of k) (place_of link)) && test k) ls) parts.0
-        ∙ ap (λ b. test l || b) (all_others ls parts.1)
-
-pub come_linked : (f : Facts) (s : Standing) (old new : List Link) → IsLinked s old → AllByRecursion (λ c. cid_below c f.cid ≡ true) (ids_in s) →
-    new ≡ with_new (blank (placed_of f)) old → IsLinkedBut f.cid (come f s) new
-come_linked f s old new linked below is =
-    let e : Entry = fresh_entry f in
-    let link : Link = link_of e in
-    let first : Link = blank (placed_of f) in
-    let absent : stands_at (placed_of f) old ≡ false = no_link (placed_of f) s old linked below in
-    let found : entry_with f.cid.0 (come f s) ≡ Some e = found_last e s.entries below in
-    subst (IsLinkedBut f.cid (come f s)) (sym is)
-    (subst (λ o. IsSomeAnd o (λ x. IsLinkedWith (link_of x) (come f s) (with_new first old))) (sym found) record {
-      there = stands-new first old;
-      same = λ test.
-          any-renewed test first link old refl absent
-          ∙ (ap (λ b. test link || b) (linked test)
-          ∙ (last (test link) (list_any test (links_in s))
-          ∙ (sym (list_any-append test (links_in s) (link ∷ []))
-          ∙ ap (list_any test) (sym (map-append link_of s.entries (e ∷ []))))));
-    })
+pub come_linked : (f : Facts) (link : Link) (s : Standing) (old new : List Link) → IsLinked s old → link ≡ link_of (fresh_entry f) → new ≡ with_new link old →
+    IsLinked (come f s) new
+come_linked f link s old new linked is put =
+    subst (IsLinked (come f s)) (sym (put ∙ ap (λ l. with_new l old) is)) (λ test.
+    any-new test (link_of (fresh_entry f)) old
+    ∙ (ap (λ b. test (link_of (fresh_entry f)) || b) (linked test)
+    ∙ (last (test (link_of (fresh_entry f))) (list_any test (links_in s))
+    ∙ (sym (list_any-append test (links_in s) (link_of (fresh_entry f) ∷ []))
+    ∙ ap (list_any test) (sym (map-append link_of s.entries (fresh_entry f ∷ [])))))))
   where
     last : (a b : Bool) → (a || b) ≡ (b || (a || false))
     last true true = refl
@@ -260,10 +257,10 @@ come_linked f s old new linked below is =
     last false false = refl
 
 -- it doesn't come after all
-pub left_linked : (placed : Placed) (s : Standing) (old entered new : List Link) → IsLinked s old →
-    AllByRecursion (λ c. cid_below c placed.cid ≡ true) (ids_in s) → entered ≡ with_new (blank placed) old → new ≡ without_link placed entered → IsLinked s new
-left_linked placed s old entered new linked below is_then is =
-    subst (IsLinked s) (sym (is ∙ (ap (without_link placed) is_then ∙ left_again (blank placed) old (no_link placed s old linked below)))) linked
+pub left_linked : (link : Link) (s : Standing) (old entered new : List Link) → IsLinked s old →
+    AllByRecursion (λ c. cid_below c link.cid ≡ true) (ids_in s) → entered ≡ with_new link old → new ≡ without_link (place_of link) entered → IsLinked s new
+left_linked link s old entered new linked below is_then is =
+    subst (IsLinked s) (sym (is ∙ (ap (without_link (place_of link)) is_then ∙ left_again link old (no_link (place_of link) s old linked below)))) linked
 
 -- ---- a connection goes
 

@@ -1,5 +1,5 @@
 -- The links of the connections that stand: what the rules see of each, found by its address and id.
-use Rattle.std.specs.Prelude.{◌≡◌, Bool, true, false, not, List, [], ◌∷◌, map, filter, Option, Some, None, IsSomeAnd, if◌then◌else◌}
+use Rattle.std.specs.Prelude.{◌≡◌, Bool, true, not, ◌&&◌, List, [], ◌∷◌, map, filter, Option, Some, None, IfSome, IsSomeAnd, if◌then◌else◌}
 use Rattle.std.specs.List.{list_any}
 use Rattle.conn_table.specs.Index.{placed_below, same_placed}
 use Rattle.conn_table.specs.declared.placed.Placed.{Placed}
@@ -28,22 +28,20 @@ stands_at placed links = list_any (λ l. same_placed (place_of l) placed) links
 abbrev pub HaveSameLinks : List Link → List Link → Type 0
 HaveSameLinks links others = (test : Link → Bool) → list_any test links ≡ list_any test others
 
--- ---- changes
+abbrev pub agree : Bool → Bool → Bool
+agree a b = if a then b else not b
 
--- of a connection of which nothing is known yet
-abbrev pub blank : Placed → Link
-blank placed = record {
-  addr = placed.addr;
-  cid = placed.cid;
-  live = false;
-  acquirable = false;
-  pending = false;
-  local = false;
-  sharing = false;
-  owes2 = false;
-  owes8 = false;
-  owes10 = false;
-}
+abbrev pub same_use : Link → Link → Bool
+same_use a b = (agree a.live b.live && agree a.acquirable b.acquirable) && (agree a.pending b.pending && (agree a.local b.local && agree a.sharing b.sharing))
+
+abbrev pub same_owed : Link → Link → Bool
+same_owed a b = agree a.owes2 b.owes2 && (agree a.owes8 b.owes8 && agree a.owes10 b.owes10)
+
+-- the rules see the same of both
+abbrev pub same_link : Link → Link → Bool
+same_link a b = (same_use a b && same_owed a b) && same_placed (place_of a) (place_of b)
+
+-- ---- changes
 
 -- one more, at its place
 abbrev pub with_new : Link → List Link → List Link
@@ -81,3 +79,7 @@ pub record IsLinkedWith (link : Link) (s : Standing) (links : List Link) : Type 
 -- they are, but for the link of one of them
 abbrev pub IsLinkedBut : Cid → Standing → List Link → Type 0
 IsLinkedBut cid s links = IsSomeAnd (entry_with cid.0 s) (λ e. IsLinkedWith (link_of e) s links)
+
+-- they are, where what the rules see of one of them is a link still
+abbrev pub IsLinkedIf : Link → Cid → Standing → List Link → Type 0
+IsLinkedIf seen cid s links = IfSome (entry_with cid.0 s) (λ e. seen ≡ link_of e → IsLinked s links)

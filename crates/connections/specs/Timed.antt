@@ -8,9 +8,8 @@ use Rattle.net_base.specs.declared.connection.Grace.TheVariants.{Off, ForRemote,
 use Rattle.net_base.specs.declared.connection.Phase.{Phase}
 use Rattle.net_base.specs.declared.connection.Phase.TheVariants.{Dialing, Greeting, Negotiated, Closing}
 use Rattle.net_base.specs.declared.timer.Deadline.{Deadline}
-use Rattle.net_base.specs.declared.timer.Kind.{Kind}
-use Rattle.timer_queue.specs.Queue.{Queue, IsOrderly, with_timer, without_timer}
-use Rattle.timer_queue.specs.Timers.{timer, HaveSame, without_cid}
+use Rattle.timer_queue.specs.Queue.{Queue, IsOrderly}
+use Rattle.timer_queue.specs.Timers.{HaveSame, without_cid}
 use Rattle.connections.specs.Standing.{Standing, entry_with}
 use Rattle.connections.specs.declared.reply.Reply.{Reply}
 
@@ -32,11 +31,6 @@ pub record IsTimedBut (cid : Cid) (s : Standing) (queue : Queue) : Type 0 where
   pub timers : HaveSame (without_cid cid queue.timers) (without_cid cid (deadlines_in s))
   pub orderly : IsOrderly queue
   pub stands : IsSome (entry_with cid.0 s)
-
--- the timer of a kind is at a moment, or there is none
-abbrev pub timed_at : Cid → Kind → Option ℕ → Queue → Queue
-timed_at cid kind None queue = without_timer cid kind queue
-timed_at cid kind (Some at) queue = with_timer (timer cid kind at) queue
 
 -- ---- the moments of a connection, by kind
 

@@ -1,5 +1,5 @@
 ghost use Rattle.std.specs.Prelude.{◌≡◌, Some, IfSome};
-ghost use Rattle.std.specs.Option.{option_map};
+ghost use Rattle.std.specs.Option.{option_copied, option_map};
 ghost use Rattle.conn_state.specs.Counted.{counted};
 ghost use Rattle.net_base.specs.Bounds.{AreSound};
 ghost use Rattle.conn_state.specs.Use.{live_at};
@@ -78,8 +78,8 @@ impl Connections {
     }
 
     /// What is known of the connection with an id. None where there is none.
-    pub fn facts(&self, cid: Cid) -> Option<Facts>
-        ensures { result ≡ option_map (λ e. e.facts) (entry_with cid.0 self.now) }
+    pub fn facts(&self, cid: Cid) -> Option<&Facts>
+        ensures { option_copied result ≡ option_map (λ e. e.facts) (entry_with cid.0 self.now) }
     {
         self.kept.roster.facts(cid)
     }

@@ -52,6 +52,7 @@ impl LinkRow {
         requires { stands_at (place_of link) self.old ≡ false }
         ensures ok { OnOk result (self.new ≡ with_new link self.old) }
         ensures err { OnErr result (self.new ≡ self.old) }
+        ensures ordered { AreInOrder self.old }
     {
         let row = place_in(&self.rows, place_of(&link));
         self.rows.insert(row, link)

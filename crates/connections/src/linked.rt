@@ -1,5 +1,5 @@
 ghost use Rattle.std.specs.Prelude.{◌≡◌, [], true, false, filter, OnOk, OnErr};
-ghost use Rattle.connections.specs.Linked.{place_of, stands_at, blank, with_new, with_link, without_link, counted_anew};
+ghost use Rattle.connections.specs.Linked.{place_of, stands_at, with_new, with_link, without_link, counted_anew};
 ghost use Rattle.govern_rules.specs.Lent.{is_counted};
 ghost use Rattle.govern_rules.specs.SortedLinks.{IsInOrder};
 
@@ -44,13 +44,17 @@ impl Links {
         }
     }
 
-    /// A blank link for one more connection. A refusal changes nothing.
-    pub fn enroll(&mut self, placed: Placed) -> Result<(), OutOfMemory>
-        requires { stands_at placed self.old ≡ false }
-        ensures ok { OnOk result (self.new ≡ with_new (blank placed) self.old) }
+    /// The link of one more connection. A refusal changes nothing; where there is no memory for it among those by which the
+    /// rules count, they look at all.
+    pub fn enroll(&mut self, link: Link) -> Result<(), OutOfMemory>
+        requires { stands_at (place_of link) self.old ≡ false }
+        ensures ok { OnOk result (self.new ≡ with_new link self.old) }
         ensures err { OnErr result (self.new ≡ self.old) }
     {
-        self.all.enter(blank(placed))
+        self.all.enter(link)?;
+        let has_all = count_anew(&mut self.counted, link, self.has_all_counted);
+        self.has_all_counted = has_all;
+        Ok(())
     }
 
     /// A link in place of the one of its connection. That takes no memory but for a link by which the rules count; where
@@ -106,23 +110,5 @@ fn count_anew(counted: &mut LinkRow, link: Link, has_all: bool) -> bool
     match counted.enter(link) {
         Ok(()) => has_all,
         Err(_) => false,
-    }
-}
-
-// The link of a connection of which nothing is known yet.
-fn blank(placed: Placed) -> Link
-    ensures { result ≡ blank placed }
-{
-    Link {
-        addr: placed.addr,
-        cid: placed.cid,
-        live: false,
-        acquirable: false,
-        pending: false,
-        local: false,
-        sharing: false,
-        owes2: false,
-        owes8: false,
-        owes10: false,
     }
 }

@@ -75,12 +75,31 @@ pub fn feed_at(
         (λ t. IsFed (fed_by node_limits t.cutter bytes.now) fed)) }
     ensures err { OnErr result (TurnsAt place (with_cutter nothing_fed) talks.old talks.new) }
 {
-    let cutter = swap_cutter(talks, place, alloc, Cutter::new(alloc));
+    let talk = take_out(talks, place, alloc);
+    let Talk { cutter, replies } = talk;
+    match feed(cutter, alloc, bytes) {
+        Ok((cutter, fed)) => {
+            put_back(talks, place, Talk { cutter, replies });
+            Ok(fed)
+        }
+        Err(OutOfMemory) => {
+            let cutter = Cutter::new(alloc);
+            put_back(talks, place, Talk { cutter, replies });
+            Err(OutOfMemory)
+        }
+    }
+}
+
+// New bytes of a stream that goes on, and the cutter with which it does.
+fn feed(cutter: Cutter, alloc: Global, bytes: &[u8]) -> Result<(Cutter, Decoded), OutOfMemory>
+    requires { cutter.fault ≡ None }
+    ensures next { IfOk result (λ r. r.0 ≡ going_on (fed_by node_limits cutter bytes.now).state) }
+    ensures fed { IfOk result (λ r. IsFed (fed_by node_limits cutter bytes.now) r.1) }
+{
     let mut items = PackedItems::new(alloc);
     let (cutter, fault) = cutter.feed_into(bytes, &mut items)?;
     let cutter = next_cutter(alloc, cutter, fault);
-    swap_cutter(talks, place, alloc, cutter);
-    Ok(Decoded { items, fault })
+    Ok((cutter, Decoded { items, fault }))
 }
 
 // The cutter with which a stream goes on.

@@ -5,16 +5,21 @@ ghost use Rattle.conn_state.specs.Use.{live_at};
 ghost use Rattle.conn_table.specs.Answers.{any_at};
 ghost use Rattle.conn_table.specs.Conditions.{CanStep};
 ghost use Rattle.timer_queue.specs.Queue.{IsOrderly, with_enrolled};
-ghost use Rattle.connections.specs.Linked.{stands_at, blank, with_new};
+ghost use Rattle.connections.specs.Linked.{place_of, stands_at, with_new};
 ghost use Rattle.connections.specs.Standing.{entry_with, live_entry, facts_in, come, gone, Turns};
 ghost use Rattle.connections.specs.Steps.{closes, stepped};
 
 use super::Connections;
 use crate::kept::rerank;
+use crate::link::link_of;
+use crate::link_row::place_of;
 use crate::linked::Links;
+use crate::replies::Replies;
 use crate::talk::unread_at;
+use crate::timed::retime;
 use conn_state::{ConnState, ReservedOutbound, Unnegotiated};
 use conn_table::{Placed, Step};
+use govern_rules::Link;
 use net_base::{Addr, Cid, Facts, OutOfMemory};
 use timer_queue::TimerQueue;
 
@@ -57,11 +62,12 @@ impl Connections {
         ensures { Turns cid.0 (stepped step) self.old self.new }
     {
         let place = self.kept.roster.place_of(cid);
+        let seen = self.kept.link(cid, place);
         let was = self.kept.roster.turn_at(place, step);
         unread_at(&mut self.kept.talks, place, self.alloc, closes(step, &was));
         rerank(&mut self.kept.order, &was, self.kept.roster.at(place));
         self.kept
-            .follow(cid, place, &mut self.timers, &mut self.links);
+            .follow(cid, place, &seen, &mut self.timers, &mut self.links);
     }
 
     /// A connection goes.
@@ -93,19 +99,24 @@ impl Connections {
         ensures ok { OnOk result (self.new ≡ come (facts_of state) self.old) }
         ensures err { OnErr result (self.new ≡ self.old) }
     {
-        let Facts { addr, cid, .. } = state.facts();
-        let placed = Placed { addr, cid };
-        enroll(&mut self.timers, &mut self.links, placed)?;
+        let facts = state.facts();
+        let nothing_owed = Replies::new();
+        enroll(
+            &mut self.timers,
+            &mut self.links,
+            link_of(&facts, &nothing_owed),
+        )?;
         match self.kept.enter(self.alloc, state) {
             Ok(()) => {
-                let place = self.kept.roster.place_of(cid);
-                self.kept
-                    .follow(cid, place, &mut self.timers, &mut self.links);
+                retime(&mut self.timers, &facts, &nothing_owed);
                 Ok(())
             }
             Err(refusal) => {
-                self.timers.leave(placed.cid);
-                self.links.leave(placed);
+                self.timers.leave(facts.cid);
+                self.links.leave(Placed {
+                    addr: facts.addr,
+                    cid: facts.cid,
+                });
                 Err(refusal)
             }
         }
@@ -127,19 +138,19 @@ fn closes(step: Step, facts: &Facts) -> bool
     }
 }
 
-// One more connection has room for its timers, and a blank link. A refusal changes nothing.
-fn enroll(timers: &mut TimerQueue, links: &mut Links, placed: Placed) -> Result<(), OutOfMemory>
-    requires { stands_at placed links.old ≡ false }
-    ensures timers { OnOk result (timers.new ≡ with_enrolled placed.cid timers.old) }
-    ensures links { OnOk result (links.new ≡ with_new (blank placed) links.old) }
+// One more connection has room for its timers, and a link. A refusal changes nothing.
+fn enroll(timers: &mut TimerQueue, links: &mut Links, link: Link) -> Result<(), OutOfMemory>
+    requires { stands_at (place_of link) links.old ≡ false }
+    ensures timers { OnOk result (timers.new ≡ with_enrolled link.cid timers.old) }
+    ensures links { OnOk result (links.new ≡ with_new link links.old) }
     ensures timers_stay { OnErr result (timers.new ≡ timers.old) }
     ensures links_stay { OnErr result (links.new ≡ links.old) }
     ensures orderly { OnOk result (IsOrderly timers.new) }
 {
-    links.enroll(placed)?;
-    let enrolled = timers.enroll(placed.cid);
+    links.enroll(link)?;
+    let enrolled = timers.enroll(link.cid);
     if enrolled.is_err() {
-        links.leave(placed);
+        links.leave(place_of(&link));
     }
     enrolled
 }

@@ -32,9 +32,10 @@ impl Connections {
         let place = self.kept.roster.place_of(cid);
         let until = now + self.kept.settings.reply;
         let reply = Reply { until, asked };
+        let seen = self.kept.link(cid, place);
         owe_at(&mut self.kept.talks, place, self.alloc, protocol, reply);
         self.kept
-            .follow(cid, place, &mut self.timers, &mut self.links);
+            .follow(cid, place, &seen, &mut self.timers, &mut self.links);
     }
 
     /// The reply on a protocol is there.
@@ -43,9 +44,10 @@ impl Connections {
         ensures { Turns cid.0 (paid protocol) self.old self.new }
     {
         let place = self.kept.roster.place_of(cid);
+        let seen = self.kept.link(cid, place);
         pay_at(&mut self.kept.talks, place, self.alloc, protocol);
         self.kept
-            .follow(cid, place, &mut self.timers, &mut self.links);
+            .follow(cid, place, &seen, &mut self.timers, &mut self.links);
     }
 
     /// The first item that bytes of a connection would make whole, lent, where nothing that came in before waits and it is
@@ -68,6 +70,7 @@ impl Connections {
     {
         // no deadline comes or goes, and no link changes
         let place = self.kept.roster.place_of(cid);
+        self.kept.roster.recent = place;
         feed_at(&mut self.kept.talks, place, self.alloc, bytes)
     }
 }

@@ -15,7 +15,7 @@ impl NodeState {
         ensures id { IfSome result (λ f. f.cid ≡ cid) }
         ensures known { IfSome result (λ f. IsKnown f self.now) }
     {
-        self.connections.facts(cid)
+        self.connections.facts(cid).copied()
     }
 
     /// The live connection of an address.

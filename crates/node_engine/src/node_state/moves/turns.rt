@@ -60,18 +60,18 @@ impl NodeState {
             (λ e. actions.new ≡ actions.old ++ name_notice old e.facts)) }
     {
         match self.connections.facts(old.cid) {
-            Some(new) => tell_name(old, new, actions),
+            Some(new) => tell_name(&old, new, actions),
             None => unreachable!(),
         }
     }
 }
 
 // The name of a connection is told where it is another one than before.
-fn tell_name(old: Facts, new: Facts, actions: &mut ActionList) -> Result<(), OutOfMemory>
-    ensures { OnOk result (actions.new ≡ actions.old ++ name_notice old new) }
+fn tell_name(old: &Facts, new: &Facts, actions: &mut ActionList) -> Result<(), OutOfMemory>
+    ensures { OnOk result (actions.new ≡ actions.old ++ name_notice old.now new.now) }
 {
-    let name = name_of(&new);
-    if name_of(&old) == name {
+    let name = name_of(new);
+    if name_of(old) == name {
         return Ok(());
     }
     actions.push(Action::State(old.cid, name))

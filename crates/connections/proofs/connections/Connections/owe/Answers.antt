@@ -3,7 +3,7 @@ use Rattle.machine.specs.Replies.{with_reply}
 use Rattle.connections.specs.Standing.{Standing, Turns, owes}
 use Rattle.connections.specs.Kept.{table_of, standing}
 use Rattle.connections.specs.Talks.{standing_of, with_owed}
-use Rattle.connections.proofs.LinkedTurns.{linked_but}
+use Rattle.connections.proofs.LinkedTurns.{linked_but, linked_if}
 use Rattle.connections.proofs.Stepping.{any_in, talk_inside, talk_turns}
 use Rattle.connections.proofs.TalkTurns.{Any, IsTurn}
 use Rattle.connections.proofs.TimedTurns.{stands_in, turned_but}
@@ -37,6 +37,13 @@ follow-requires-clause-timed c = turned_but c.args.cid (owes c.args.protocol c.a
 pub follow-requires-clause-linked : goal.follow-requires-clause-linked
 follow-requires-clause-linked c = linked_but c.args.cid (owes c.args.protocol c.args.asked (c.args.now + c.self.inside.kept.settings.reply)) _ _ _ _ c.self.invariant.1.0 c.self.invariant.1.1
     (stands_in c.args.cid _ _ c.self.view_is c.requires.stands) (λ e. refl) (turns (goal.at.follow-requires-clause-linked c).After-owe_at).turns
+
+pub link-seen-requires-clause-stands : goal.link-seen-requires-clause-stands
+link-seen-requires-clause-stands c = stands_in c.args.cid _ _ c.self.view_is c.requires.stands
+
+pub follow-requires-clause-stays : goal.follow-requires-clause-stays
+follow-requires-clause-stays c = linked_if c.args.cid (owes c.args.protocol c.args.asked (c.args.now + c.self.inside.kept.settings.reply)) c.link-seen.result _ _ _ _ c.self.invariant.1.0 c.self.invariant.1.1
+    (stands_in c.args.cid _ _ c.self.view_is c.requires.stands) (λ e. refl) c.link-seen.ensures (turns (goal.at.follow-requires-clause-stays c).After-owe_at).turns
 
 pub returns : goal.returns
 returns c =

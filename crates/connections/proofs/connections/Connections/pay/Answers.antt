@@ -2,7 +2,7 @@ use Rattle.std.proofs.Common.{refl}
 use Rattle.machine.specs.Replies.{paid, without_reply}
 use Rattle.connections.specs.Kept.{table_of, standing}
 use Rattle.connections.specs.Talks.{with_owed}
-use Rattle.connections.proofs.LinkedTurns.{linked_but}
+use Rattle.connections.proofs.LinkedTurns.{linked_but, linked_if}
 use Rattle.connections.proofs.Stepping.{said, any_in, talk_inside, talk_turns}
 use Rattle.connections.proofs.TalkTurns.{Any, IsTurn}
 use Rattle.connections.proofs.TimedTurns.{stands_in, turned_but}
@@ -36,6 +36,13 @@ follow-requires-clause-timed c = turned_but c.args.cid (paid c.args.protocol) _ 
 pub follow-requires-clause-linked : goal.follow-requires-clause-linked
 follow-requires-clause-linked c = linked_but c.args.cid (paid c.args.protocol) _ _ _ _ c.self.invariant.1.0 c.self.invariant.1.1
     (stands_in c.args.cid _ _ c.self.view_is c.requires) (λ e. refl) (turns (goal.at.follow-requires-clause-linked c).After-pay_at).turns
+
+pub link-seen-requires-clause-stands : goal.link-seen-requires-clause-stands
+link-seen-requires-clause-stands c = stands_in c.args.cid _ _ c.self.view_is c.requires
+
+pub follow-requires-clause-stays : goal.follow-requires-clause-stays
+follow-requires-clause-stays c = linked_if c.args.cid (paid c.args.protocol) c.link-seen.result _ _ _ _ c.self.invariant.1.0 c.self.invariant.1.1
+    (stands_in c.args.cid _ _ c.self.view_is c.requires) (λ e. refl) c.link-seen.ensures (turns (goal.at.follow-requires-clause-stays c).After-pay_at).turns
 
 pub returns : goal.returns
 returns c = said c.args.cid.0 (paid c.args.protocol) _ _ _ c.self.view_is (turns (goal.at.returns c).After-pay_at).turns

@@ -5,11 +5,11 @@ use Rattle.conn_table.proofs.StateFacts.{step_keeps}
 use Rattle.connections.specs.Kept.{table_of, standing}
 use Rattle.connections.specs.Ordered.{IsOrdered}
 use Rattle.connections.specs.Steps.{stepped}
-use Rattle.connections.proofs.LinkedTurns.{moved_linked}
+use Rattle.connections.proofs.LinkedTurns.{moved_linked, moved_if}
 use Rattle.connections.proofs.OrderTurns.{still_inside, stands_in_order, ordered_turn}
 use Rattle.connections.proofs.Stepping.{asked, said, FoundIn, found_in, placed_in, talk_inside, was_there, step_turns, still_placed, keeps_id}
 use Rattle.connections.proofs.TalkTurns.{IsTurn}
-use Rattle.connections.proofs.TimedTurns.{moved_but}
+use Rattle.connections.proofs.TimedTurns.{moved_but, stands_in, some_of}
 use Rattle.connections.proofs.connections.Connections.turn.Goals.{After-place_of-place, After-unread_at, After-rerank}
 use Rattle.connections.proofs.connections.Connections.turn.Goals as goal
 
@@ -81,6 +81,13 @@ follow-requires-clause-timed c = moved_but c.args.cid _ (stepped c.args.step) _ 
 pub follow-requires-clause-linked : goal.follow-requires-clause-linked
 follow-requires-clause-linked c = moved_linked c.args.cid _ (stepped c.args.step) _ _ _ _ _ c.self.invariant.1.0 c.self.invariant.1.1 c.self.view_is
     c.requires (λ e. step_keeps c.args.step e.facts) (turns (goal.at.follow-requires-clause-linked c).After-unread_at).turns
+
+pub link-seen-requires-clause-stands : goal.link-seen-requires-clause-stands
+link-seen-requires-clause-stands c = stands_in c.args.cid _ _ c.self.view_is (some_of _ _ c.requires)
+
+pub follow-requires-clause-stays : goal.follow-requires-clause-stays
+follow-requires-clause-stays c = moved_if c.args.cid _ (stepped c.args.step) c.link-seen.result _ _ _ _ _ c.self.invariant.1.0 c.self.invariant.1.1 c.self.view_is
+    c.requires (λ e. keeps_id c.args.step e.facts) c.link-seen.ensures (turns (goal.at.follow-requires-clause-stays c).After-unread_at).turns
 
 pub returns : goal.returns
 returns c = said c.args.cid.0 (stepped c.args.step) _ _ _ c.self.view_is (turns (goal.at.returns c).After-unread_at).turns
