@@ -1,6 +1,5 @@
 -- The rows of those that have left are dropped.
-use Rattle.std.proofs.Common.{◌≡◌, suc, ◌≤◌, Bool, true, false, cond, List, [], ◌∷◌, ◌++◌, length, Result, Ok, Err, refl, ap, sym, ◌∙◌, arith}
-use Rattle.std.specs.Result.{OnOk, OnErr}
+use Rattle.std.proofs.Common.{◌≡◌, Bool, true, false, cond, List, [], ◌∷◌, ◌++◌, refl, ap, sym, ◌∙◌}
 use Rattle.timer_queue.specs.Kept.{AreRising, AreIdle, those_in, timers_in, all_timers}
 use Rattle.timer_queue.specs.Rows.{no_moments}
 use Rattle.timer_queue.specs.Timers.{same_cid, cid_below}
@@ -39,15 +38,3 @@ timers-dropped (r ∷ rs) idle = chosen r.enrolled refl (timers-dropped rs idle.
         all_timers (cond b (r ∷ those_in rs) (those_in rs)) ≡ timers_in r ++ all_timers rs
     chosen true is rest = ap (λ l. timers_in r ++ l) rest
     chosen false left rest = rest ∙ ap (λ l. l ++ all_timers rs) (sym (no_timers r (idle.0 left)))
-
-pub fewer : (rows : List Row) → length (those_in rows) ≤ length rows
-fewer [] = omega arith
-fewer (r ∷ rs) = chosen r.enrolled (fewer rs)
-  where
-    chosen : (b : Bool) → length (those_in rs) ≤ length rs → length (cond b (r ∷ those_in rs) (those_in rs)) ≤ suc (length rs)
-    chosen true rest = omega (arith, rest)
-    chosen false rest = omega (arith, rest)
-
-pub in_either : {A E : Type 0} (r : Result A E) (P Q R : Type 0) → OnOk r P → OnErr r Q → (P → R) → (Q → R) → R
-in_either (Ok x) P Q R ok err f g = f ok
-in_either (Err e) P Q R ok err f g = g err

@@ -1,46 +1,20 @@
 -- Of two timers, or of none, the one that fires first: in whatever order they are looked at.
-use Rattle.std.proofs.Common.{◌≡◌, true, false, List, [], ◌∷◌, ◌++◌, Option, Some, None, refl, sym, ap, ◌∙◌, inl, inr}
+use Rattle.std.proofs.Common.{◌≡◌, List, [], ◌∷◌, ◌++◌, Option, Some, None, refl, sym, ap, ◌∙◌, inl, inr}
 use Rattle.std.specs.List.{cons_option}
-use Rattle.std.proofs.lemmas.Bool.{cases_Bool, false≢true}
+use Rattle.std.proofs.lemmas.Bool.{cases_Bool}
 use Rattle.net_base.specs.Timer.{deadline_before}
 use Rattle.net_base.specs.declared.timer.Deadline.{Deadline}
 use Rattle.net_base.specs.declared.timer.Kind.TheVariants.{Handshake, Grace, TimeWait, Reply2, Reply8, Reply10}
 use Rattle.timer_queue.specs.Kept.{timers_in, all_timers}
-use Rattle.timer_queue.specs.Timers.{same_timer, least}
-use Rattle.timer_queue.specs.Trees.{sooner, timer_in, first_in, nodes_of}
+use Rattle.timer_queue.specs.Timers.{least}
+use Rattle.timer_queue.specs.Trees.{sooner, timer_in, first_in}
 use Rattle.timer_queue.specs.declared.rows.Row.{Row}
 use Rattle.timer_queue.proofs.Firsts.{not_before}
 use Rattle.timer_queue.proofs.Orders.{timer_order}
-use Rattle.timer_queue.proofs.Rising.{never_both}
-
-asymmetric : (a b : Deadline) → deadline_before a b ≡ true → deadline_before b a ≡ false
-asymmetric a b h = never_both deadline_before same_timer timer_order a b h
-
-same_one : (a b : Deadline) → deadline_before a b ≡ false → deadline_before b a ≡ false → a ≡ b
-same_one a b h k = elim (cases_Bool (same_timer a b)) [
-  | inl same ↦ timer_order.same_is a b same
-  | inr other ↦ absurd (false≢true (sym k ∙ timer_order.connected a b other h))
-]
 
 pub sooner-none : (o : Option Deadline) → sooner o None ≡ o
 sooner-none None = refl
 sooner-none (Some d) = refl
-
-pub sooner-same : (o : Option Deadline) → sooner o o ≡ o
-sooner-same None = refl
-sooner-same (Some d) = rw (timer_order.irreflexive d) refl
-
-pub sooner-turned : (o p : Option Deadline) → sooner o p ≡ sooner p o
-sooner-turned None None = refl
-sooner-turned None (Some d) = refl
-sooner-turned (Some c) None = refl
-sooner-turned (Some c) (Some d) = elim (cases_Bool (deadline_before d c)) [
-  | inl before ↦ rw (before, asymmetric d c before) refl
-  | inr behind ↦ elim (cases_Bool (deadline_before c d)) [
-    | inl before ↦ rw (behind, before) refl
-    | inr neither ↦ rw (behind, neither) (ap Some (same_one c d neither behind))
-  ]
-]
 
 pub sooner-joined : (o p q : Option Deadline) → sooner (sooner o p) q ≡ sooner o (sooner p q)
 sooner-joined None p q = refl
@@ -56,12 +30,6 @@ sooner-joined (Some a) (Some b) (Some c) = elim (cases_Bool (deadline_before b a
     | inr bc ↦ rw (ab, bc, ab, not_before c b a bc ab) refl
   ]
 ]
-
--- ---- of a list of them
-
-abbrev pub first_among : List (Option Deadline) → Option Deadline
-first_among [] = None
-first_among (o ∷ os) = sooner o (first_among os)
 
 -- ---- of rows
 
@@ -82,8 +50,5 @@ first_in-least row =
     ∙ ap (sooner (timer_in row Reply2)) (least-cons_option (timer_in row Reply8) _
     ∙ ap (sooner (timer_in row Reply8)) (least-cons_option (timer_in row Reply10) [] ∙ sooner-none (timer_in row Reply10))))))
 
-pub first_among-least : (rows : List Row) → first_among (nodes_of rows) ≡ least (all_timers rows)
-first_among-least [] = refl
-first_among-least (r ∷ rs) =
-    ap (sooner (first_in r)) (first_among-least rs)
-    ∙ (ap (λ o. sooner o (least (all_timers rs))) (sym (first_in-least r)) ∙ sym (least-append (timers_in r) (all_timers rs)))
+pub least-rows : (r : Row) (rs : List Row) → least (all_timers (r ∷ rs)) ≡ sooner (first_in r) (least (all_timers rs))
+least-rows r rs = least-append (timers_in r) (all_timers rs) ∙ ap (λ o. sooner o (least (all_timers rs))) (first_in-least r)

@@ -3,13 +3,15 @@ pub mod Dropped
 pub mod Enrolled
 pub mod Firsts
 pub mod Joins
+pub mod Leasts
 pub mod Lines
 pub mod Orderly
 pub mod Orders
 pub mod Outcomes
+pub mod Over
+pub mod PutTimers
 pub mod Puts
-pub mod Raising
 pub mod Rising
-pub mod Roots
 pub mod RowEdits
 pub mod TimersOf
+pub mod Words

@@ -167,17 +167,23 @@ pub none_of : (k : Kind) → moment k no_moments ≡ None
 none_of Handshake = refl
 none_of k = refl
 
--- a row without timers in place of the one of its id
-pub moment_at-emptied : (cid : Cid) (k : Kind) (new : Row) (rows : List Row) → new.moments ≡ no_moments → is_some (row_at new.cid rows) ≡ true →
-    moment_at cid k (with_row new rows) ≡ cond (same_cid cid new.cid) None (moment_at cid k rows)
-moment_at-emptied cid k new rows empty there = elim (cases_Bool (same_cid cid new.cid)) [
+-- a row in place of the one of its id
+pub moment_at-put : (cid : Cid) (k : Kind) (new : Row) (rows : List Row) → is_some (row_at new.cid rows) ≡ true →
+    moment_at cid k (with_row new rows) ≡ cond (same_cid cid new.cid) (moment k new.moments) (moment_at cid k rows)
+moment_at-put cid k new rows there = elim (cases_Bool (same_cid cid new.cid)) [
   | inl here ↦
       let put : row_at new.cid (with_row new rows) ≡ Some new =
       find-replaced cid_below same_cid cid_order cid_of new.cid new rows (cid_order.same_itself new.cid) (has_row new.cid rows there) in
-      rw here (ap (λ i. moment_at i k (with_row new rows)) (same_cid-is cid new.cid here) ∙ (ap (moment_of k) put ∙ (ap (moment k) empty ∙ none_of k)))
+      rw here (ap (λ i. moment_at i k (with_row new rows)) (same_cid-is cid new.cid here) ∙ ap (moment_of k) put)
   | inr other ↦ rw other (ap (moment_of k)
       (find-replaced_other cid_below same_cid cid_order cid_of new.cid cid new rows (same_cid-turned new.cid cid ∙ other) (cid_order.same_itself new.cid)))
 ]
+
+-- and one without timers
+pub moment_at-emptied : (cid : Cid) (k : Kind) (new : Row) (rows : List Row) → new.moments ≡ no_moments → is_some (row_at new.cid rows) ≡ true →
+    moment_at cid k (with_row new rows) ≡ cond (same_cid cid new.cid) None (moment_at cid k rows)
+moment_at-emptied cid k new rows empty there =
+    moment_at-put cid k new rows there ∙ ap (λ o. cond (same_cid cid new.cid) o (moment_at cid k rows)) (ap (moment k) empty ∙ none_of k)
 
 pub inside_rows : (cid : Cid) (rows : List Row) (place : ℕ) → AreRising rows → is_some (row_at cid rows) ≡ true → place ≡ place_at cid rows →
     place < length rows

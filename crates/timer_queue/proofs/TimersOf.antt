@@ -9,9 +9,9 @@ use Rattle.net_base.specs.declared.timer.Deadline.{Deadline}
 use Rattle.net_base.specs.declared.timer.Kind.{Kind}
 use Rattle.net_base.specs.declared.timer.Kind.TheVariants.{Handshake, Grace, TimeWait, Reply2, Reply8, Reply10}
 use Rattle.timer_queue.specs.Kept.{AreRising, timers_in, all_timers, in_order}
-use Rattle.timer_queue.specs.Rows.{moment, moment_of, row_at, is_set_at}
+use Rattle.timer_queue.specs.Rows.{moment, moment_of, row_at, is_set_at, timer_at}
 use Rattle.timer_queue.specs.Timers.{same_cid, cid_below, same_kind, same_timer, has_timer, IsInOrder, is_timer_of, put_in, least}
-use Rattle.timer_queue.specs.Trees.{timer_at, timer_in}
+use Rattle.timer_queue.specs.Trees.{timer_in}
 use Rattle.timer_queue.specs.declared.rows.Row.{Row}
 use Rattle.timer_queue.proofs.Agreement.{Agree, has-put_in, has-again, of_turned, or_false}
 use Rattle.timer_queue.proofs.Firsts.{least-same}
@@ -80,7 +80,7 @@ pick true set Reply2 = or_false (set Reply2)
 pick true set Reply8 = or_false (set Reply8)
 pick true set Reply10 = or_false (set Reply10)
 
-has-timers_in : (d : Deadline) (row : Row) → has_timer d (timers_in row) ≡ (same_cid d.cid row.cid && is_set_at d.at (moment d.kind row.moments))
+pub has-timers_in : (d : Deadline) (row : Row) → has_timer d (timers_in row) ≡ (same_cid d.cid row.cid && is_set_at d.at (moment d.kind row.moments))
 has-timers_in d row =
     one Handshake _
     ∙ (ap (λ b. told Handshake || b) (one Grace _

@@ -1,14 +1,14 @@
 -- What stands for a queue, and what is always true of it.
-use Rattle.std.specs.Prelude.{◌≡◌, ◌≤◌, false, List, [], ◌∷◌, ◌++◌, filter, map, length}
-use Rattle.std.specs.List.{AllByRecursion, cons_option}
+use Rattle.std.specs.Prelude.{◌≡◌, ℕ, ◌-◌, ◌^◌, ◌<◌, ◌≤◌, false, List, [], ◌∷◌, ◌++◌, filter, map, length, replicate, Option, IfSome}
+use Rattle.std.specs.List.{AllByRecursion}
 use Rattle.std.specs.Vec.{vec_capacity}
+use Rattle.least_tree.specs.Numbers.{none}
 use Rattle.net_base.specs.declared.timer.Deadline.{Deadline}
-use Rattle.net_base.specs.declared.timer.Kind.TheVariants.{Handshake, Grace, TimeWait, Reply2, Reply8, Reply10}
+use Rattle.timer_queue.specs.Keys.{first_moment, keys_in}
 use Rattle.timer_queue.specs.Order.{IsRising}
 use Rattle.timer_queue.specs.Queue.{Queue}
-use Rattle.timer_queue.specs.Rows.{no_moments}
+use Rattle.timer_queue.specs.Rows.{no_moments, timers_of}
 use Rattle.timer_queue.specs.Timers.{cid_below, put_in}
-use Rattle.timer_queue.specs.Trees.{IsTree, nodes_of, timer_in}
 use Rattle.timer_queue.specs.declared.kept.Kept.{Kept}
 use Rattle.timer_queue.specs.declared.rows.Row.{Row}
 
@@ -17,9 +17,7 @@ AreRising rows = IsRising cid_below (λ r. r.cid) rows
 
 -- the timers of a row
 abbrev pub timers_in : Row → List Deadline
-timers_in row =
-    cons_option (timer_in row Handshake) (cons_option (timer_in row Grace) (cons_option (timer_in row TimeWait)
-    (cons_option (timer_in row Reply2) (cons_option (timer_in row Reply8) (cons_option (timer_in row Reply10) [])))))
+timers_in row = timers_of row.cid row.moments
 
 abbrev pub all_timers : List Row → List Deadline
 all_timers [] = []
@@ -38,12 +36,31 @@ abbrev pub queue_of : Kept → Queue
 queue_of kept = record { enrolled = map (λ r. r.cid) (those_in kept.rows.items); timers = in_order (all_timers kept.rows.items) }
 
 -- whoever has left has no timers
+abbrev pub IsIdle : Row → Type 0
+IsIdle row = row.enrolled ≡ false → row.moments ≡ no_moments
+
 abbrev pub AreIdle : List Row → Type 0
-AreIdle rows = AllByRecursion (λ r. r.enrolled ≡ false → r.moments ≡ no_moments) rows
+AreIdle rows = AllByRecursion IsIdle rows
+
+abbrev pub IsWord : Option ℕ → Type 0
+IsWord at = IfSome at (λ n. n < 2 ^ 64)
+
+-- id and moments are words
+pub record IsOfWords (row : Row) : Type 0 where
+  pub id : row.cid.0 < 2 ^ 64
+  pub first : IsWord (first_moment row.moments)
+
+abbrev pub AreOfWords : List Row → Type 0
+AreOfWords rows = AllByRecursion IsOfWords rows
+
+-- their keys, and room for more
+abbrev pub IsOver : List Row → List ℕ → Type 0
+IsOver rows keys = keys ≡ keys_in rows ++ replicate (length keys - length rows) none
 
 pub record IsKept (kept : Kept) : Type 0 where
   pub rise : AreRising kept.rows.items
   pub idle : AreIdle kept.rows.items
-  pub fit : length kept.rows.items ≤ length kept.inner.items
-  pub memory : length kept.inner.items ≤ vec_capacity kept.rows
-  pub tree : IsTree kept.inner.items (nodes_of kept.rows.items)
+  pub words : AreOfWords kept.rows.items
+  pub fit : length kept.rows.items ≤ length kept.keys
+  pub memory : length kept.keys ≤ vec_capacity kept.rows
+  pub keys : IsOver kept.rows.items kept.keys

@@ -1,4 +1,5 @@
 pub mod Kept
+pub mod Keys
 pub mod Order
 pub mod Queue
 pub mod Rows

@@ -1,11 +1,11 @@
 -- The moments of one connection's timers, and the rows of them, one for each connection.
 use Rattle.std.specs.Prelude.{◌≡◌, ℕ, Bool, true, false, ◌==◌, List, [], ◌∷◌, find, map, Option, Some, None, if◌then◌else◌}
-use Rattle.std.specs.List.{prefix_len}
+use Rattle.std.specs.List.{cons_option, prefix_len}
 use Rattle.net_base.specs.declared.connection.Cid.{Cid}
 use Rattle.net_base.specs.declared.timer.Deadline.{Deadline}
 use Rattle.net_base.specs.declared.timer.Kind.{Kind}
 use Rattle.net_base.specs.declared.timer.Kind.TheVariants.{Handshake, Grace, TimeWait, Reply2, Reply8, Reply10}
-use Rattle.timer_queue.specs.Timers.{same_cid, cid_below, has_timer, is_timer_of}
+use Rattle.timer_queue.specs.Timers.{timer, same_cid, cid_below, has_timer, is_timer_of}
 use Rattle.timer_queue.specs.declared.moments.Moments.{Moments}
 use Rattle.timer_queue.specs.declared.rows.Row.{Row}
 
@@ -24,6 +24,18 @@ with_moment TimeWait at m = record m { time_wait = at }
 with_moment Reply2 at m = record m { reply2 = at }
 with_moment Reply8 at m = record m { reply8 = at }
 with_moment Reply10 at m = record m { reply10 = at }
+
+-- the timer of an id and a kind, where it has a moment
+abbrev pub timer_at : Cid → Kind → Option ℕ → Option Deadline
+timer_at cid kind None = None
+timer_at cid kind (Some at) = Some (timer cid kind at)
+
+-- the timers of an id, by its moments
+abbrev pub timers_of : Cid → Moments → List Deadline
+timers_of cid m =
+    cons_option (timer_at cid Handshake m.handshake) (cons_option (timer_at cid Grace m.grace)
+    (cons_option (timer_at cid TimeWait m.time_wait) (cons_option (timer_at cid Reply2 m.reply2)
+    (cons_option (timer_at cid Reply8 m.reply8) (cons_option (timer_at cid Reply10 m.reply10) [])))))
 
 abbrev pub no_moments : Moments
 no_moments = record { handshake = None; grace = None; time_wait = None; reply2 = None; reply8 = None; reply10 = None }

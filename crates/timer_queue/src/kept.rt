@@ -1,25 +1,25 @@
-ghost use Rattle.std.specs.Prelude.{◌≡◌, ◌<◌, true, false, None, OnOk, OnErr, length};
-ghost use Rattle.timer_queue.specs.Rows.{row_at, AreMomentsOf};
-ghost use Rattle.timer_queue.specs.Timers.{timer, least};
+ghost use Rattle.std.specs.Prelude.{◌≡◌, ◌<◌, ◌++◌, true, false, None, OnOk, OnErr, is_some, length};
+ghost use Rattle.timer_queue.specs.Rows.{row_at, place_at, with_row, timers_of, AreMomentsOf};
+ghost use Rattle.timer_queue.specs.Timers.{timer, least, HaveSame, without_cid};
 ghost use Rattle.timer_queue.specs.Queue.{is_enrolled, empty_queue, with_enrolled, with_timer, without_timer, without_connection, least_due, without_fired};
 
 use crate::moments::Moments;
-use crate::rows::{Row, drop_gone, place_in, place_of, put};
-use crate::tree::{build, node, widen};
+use crate::rows::{Row, drop_gone, place_in, place_of, row_in, tree_over};
+use least_tree::{LeastTree, NONE, second};
 use net_base::{Cid, Deadline, Kind, OutOfMemory};
 use std::alloc::Global;
 
-// The moments of each connection, in order of id, and a tree of which they are the leaves: each inner node has the one of
-// its two children that fires first. So a change is told as far up as it matters, and the first timer stands at the root.
+// The moments of each connection, in order of id, and beside them a tree that has of each row its first timer, as one number:
+// its moment and then the id. So the first timer of all is one of the row that the least number names.
 #[derive(Drop)]
 pub struct Kept {
     // those that have left among them
     pub rows: Vec<Row>,
-    pub inner: Vec<Option<Deadline>>,
+    pub keys: LeastTree,
 }
 
 impl Kept {
-    ghost use Rattle.timer_queue.specs.Kept.{IsKept, queue_of};
+    ghost use Rattle.timer_queue.specs.Kept.{IsKept, IsIdle, queue_of};
 
     pub fn new(alloc: Global) -> Kept
         ensures kept { IsKept result }
@@ -27,7 +27,7 @@ impl Kept {
     {
         Kept {
             rows: Vec::new(alloc),
-            inner: Vec::new(alloc),
+            keys: LeastTree::new(alloc),
         }
     }
 
@@ -36,7 +36,8 @@ impl Kept {
         requires { IsKept self.now }
         ensures { result ≡ least (queue_of self.now).timers }
     {
-        node(&self.inner, &self.rows, 1)
+        let row = row_in(&self.rows, Cid(second(self.keys.least())))?;
+        row.first()
     }
 
     pub fn has(&self, cid: Cid) -> bool
@@ -80,27 +81,29 @@ impl Kept {
         requires { IsKept self.old }
         ensures kept { IsKept self.new }
         ensures queue { queue_of self.new ≡ queue_of self.old }
-        ensures room { OnOk result (length self.new.rows.items < length self.new.inner.items) }
+        ensures room { OnOk result (length self.new.rows.items < length self.new.keys) }
     {
-        if self.rows.len() < self.inner.len() {
+        if self.rows.len() < self.keys.len() {
             return Ok(());
         }
+        let keys = tree_over(*self.rows.allocator(), &self.rows)?;
+        let more = keys.len().saturating_sub(self.rows.len());
+        self.rows.try_reserve(more)?;
         drop_gone(&mut self.rows);
-        let widened = widen(&mut self.rows, &mut self.inner);
-        build(&mut self.inner, &self.rows);
-        widened
+        self.keys = keys;
+        Ok(())
     }
 
     // A connection with no timers, where there is room for a row. One that comes again gets the row that it had.
     fn admit(&mut self, cid: Cid)
         requires kept { IsKept self.old }
         requires absent { is_enrolled cid (queue_of self.old) ≡ false }
-        requires room { length self.old.rows.items < length self.old.inner.items }
+        requires room { length self.old.rows.items < length self.old.keys }
         ensures kept { IsKept self.new }
         ensures queue { queue_of self.new ≡ with_enrolled cid (queue_of self.old) }
     {
         match place_in(&self.rows, cid) {
-            Some(place) => put(&mut self.rows, &mut self.inner, place, Row::empty(cid)),
+            Some(place) => self.put_row(place, Row::empty(cid)),
             None => self.insert(cid),
         }
     }
@@ -109,7 +112,7 @@ impl Kept {
     fn insert(&mut self, cid: Cid)
         requires kept { IsKept self.old }
         requires absent { row_at cid self.old.rows.items ≡ None }
-        requires room { length self.old.rows.items < length self.old.inner.items }
+        requires room { length self.old.rows.items < length self.old.keys }
         ensures kept { IsKept self.new }
         ensures queue { queue_of self.new ≡ with_enrolled cid (queue_of self.old) }
     {
@@ -118,7 +121,7 @@ impl Kept {
         // there is room
         let _ = self.rows.insert(place, Row::empty(cid));
         if !is_last {
-            build(&mut self.inner, &self.rows);
+            self.keys.insert(place, NONE);
         }
     }
 
@@ -130,7 +133,40 @@ impl Kept {
     {
         let place = place_of(&self.rows, cid);
         let row = self.rows[place].with(kind, Some(at));
-        put(&mut self.rows, &mut self.inner, place, row);
+        self.put_row(place, row);
+    }
+
+    // All six timers of a connection.
+    pub fn put(&mut self, cid: Cid, moments: &Moments)
+        requires kept { IsKept self.old }
+        requires enrolled { is_enrolled cid (queue_of self.old) ≡ true }
+        ensures kept { IsKept self.new }
+        ensures enrolled { (queue_of self.new).enrolled ≡ (queue_of self.old).enrolled }
+        ensures timers { HaveSame (queue_of self.new).timers (timers_of cid moments.now ++ without_cid cid (queue_of self.old).timers) }
+    {
+        let place = place_of(&self.rows, cid);
+        if self.rows[place].moments == *moments {
+            return;
+        }
+        let row = Row {
+            cid,
+            enrolled: true,
+            moments: *moments,
+        };
+        self.put_row(place, row);
+    }
+
+    // Puts a row in the place of the one of its id. Where its first timer is the same, the tree stays.
+    fn put_row(&mut self, place: usize, row: Row)
+        requires kept { IsKept self.old }
+        requires there { is_some (row_at row.cid self.old.rows.items) ≡ true }
+        requires place { place ≡ place_at row.cid self.old.rows.items }
+        requires idle { IsIdle row }
+        ensures kept { IsKept self.new }
+        ensures rows { self.new.rows.items ≡ with_row row self.old.rows.items }
+    {
+        self.keys.put(place, row.key());
+        self.rows[place] = row;
     }
 
     pub fn clear(&mut self, cid: Cid, kind: Kind)
@@ -142,7 +178,7 @@ impl Kept {
             return;
         };
         let row = self.rows[place].with(kind, None);
-        put(&mut self.rows, &mut self.inner, place, row);
+        self.put_row(place, row);
     }
 
     pub fn leave(&mut self, cid: Cid)
@@ -153,7 +189,7 @@ impl Kept {
         let Some(place) = place_in(&self.rows, cid) else {
             return;
         };
-        put(&mut self.rows, &mut self.inner, place, Row::gone(cid));
+        self.put_row(place, Row::gone(cid));
     }
 
     pub fn pop_due(&mut self, now: u64) -> Option<Deadline>

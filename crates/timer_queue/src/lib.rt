@@ -6,7 +6,6 @@ mod laws;
 mod moments;
 mod queue;
 mod rows;
-mod tree;
 
 pub use laws::{
     changes_are_told_by_timers, lists_in_order_are_one, the_first_is_the_least,

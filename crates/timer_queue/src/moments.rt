@@ -1,4 +1,5 @@
 ghost use Rattle.std.specs.Prelude.{◌≡◌};
+ghost use Rattle.timer_queue.specs.Keys.{earlier_moment};
 
 use net_base::Kind;
 use std::mem;
@@ -16,6 +17,7 @@ pub struct Moments {
 
 impl Moments {
     ghost use Rattle.timer_queue.specs.Rows.{moment, with_moment, no_moments};
+    ghost use Rattle.timer_queue.specs.Keys.{first_moment};
 
     pub(crate) fn none() -> Moments
         ensures { result ≡ no_moments }
@@ -57,5 +59,26 @@ impl Moments {
             Kind::Reply8 => mem::replace(&mut self.reply8, at),
             Kind::Reply10 => mem::replace(&mut self.reply10, at),
         }
+    }
+
+    // The first of the moments.
+    pub(crate) fn first(&self) -> Option<u64>
+        ensures { result ≡ first_moment self.now }
+    {
+        let reply = earlier(self.reply2, earlier(self.reply8, self.reply10));
+        let late = earlier(self.grace, earlier(self.time_wait, reply));
+        earlier(self.handshake, late)
+    }
+}
+
+// The earlier one of two moments, where there are any.
+#[inline(always)]
+fn earlier(one: Option<u64>, other: Option<u64>) -> Option<u64>
+    ensures { result ≡ earlier_moment one other }
+{
+    match (one, other) {
+        (None, other) => other,
+        (one, None) => one,
+        (Some(one), Some(other)) => Some(one.min(other)),
     }
 }

@@ -1,6 +1,6 @@
-ghost use Rattle.std.specs.Prelude.{◌≡◌, ◌<◌, ◌↔◌, true, false, [], All, IsTrue, IsNone, OnOk, OnErr};
-ghost use Rattle.timer_queue.specs.Rows.{AreMomentsOf};
-ghost use Rattle.timer_queue.specs.Timers.{timer, least as least_of};
+ghost use Rattle.std.specs.Prelude.{◌≡◌, ◌<◌, ◌↔◌, ◌++◌, true, false, [], All, IsTrue, IsNone, OnOk, OnErr};
+ghost use Rattle.timer_queue.specs.Rows.{AreMomentsOf, timers_of};
+ghost use Rattle.timer_queue.specs.Timers.{timer, least as least_of, HaveSame, without_cid};
 ghost use Rattle.timer_queue.specs.Queue.{IsOrderly, empty_queue, is_enrolled as enrolls, with_enrolled, with_timer, without_timer, without_connection, least_due, without_fired, told};
 
 use crate::kept::Kept;
@@ -74,6 +74,16 @@ impl TimerQueue {
         ensures orderly { IsOrderly self.new }
     {
         self.kept.set(cid, kind, at);
+    }
+
+    /// The timers of a connection are at these moments from now on, in place of those that it had.
+    pub fn put(&mut self, cid: Cid, moments: &Moments)
+        requires { IsTrue (enrolls cid self.old) }
+        ensures enrolled { self.new.enrolled ≡ self.old.enrolled }
+        ensures timers { HaveSame self.new.timers (timers_of cid moments.now ++ without_cid cid self.old.timers) }
+        ensures orderly { IsOrderly self.new }
+    {
+        self.kept.put(cid, moments);
     }
 
     /// Clears a timer, where it is set.

@@ -1,14 +1,15 @@
 ghost use Rattle.std.specs.Prelude.{◌≡◌};
+ghost use Rattle.timer_queue.specs.Trees.{sooner};
 
 use crate::moments::Moments;
-use crate::tree::sooner;
+use least_tree::{NONE, key};
 use net_base::{Cid, Deadline, Kind};
 
 mod edit;
 mod find;
 
-pub use edit::{drop_gone, put};
-pub use find::{place_in, place_of};
+pub use edit::{drop_gone, tree_over};
+pub use find::{place_in, place_of, row_in};
 
 // The moments of one connection's timers. One that has left has none, and its row stays until the rows are packed.
 #[derive(Clone, Copy, PartialEq, Eq)]
@@ -19,6 +20,8 @@ pub struct Row {
 }
 
 impl Row {
+    ghost use Rattle.timer_queue.specs.Kept.{IsOfWords};
+    ghost use Rattle.timer_queue.specs.Keys.{key_in};
     ghost use Rattle.timer_queue.specs.Rows.{empty_row, gone_row, with_at};
     ghost use Rattle.timer_queue.specs.Trees.{first_in, timer_in};
 
@@ -50,6 +53,18 @@ impl Row {
         self
     }
 
+    // Moment and id of its first timer, as one number.
+    pub fn key(&self) -> u128
+        ensures value { result ≡ key_in self.now }
+        ensures words { IsOfWords self.now }
+    {
+        let id = self.cid.0;
+        match self.moments.first() {
+            Some(at) => key(at, id),
+            None => NONE,
+        }
+    }
+
     // The one of its timers that fires first.
     pub fn first(&self) -> Option<Deadline>
         ensures { result ≡ first_in self.now }
@@ -70,5 +85,16 @@ impl Row {
             cid: self.cid,
             kind,
         })
+    }
+}
+
+// The one of two that fires first.
+fn sooner(one: Option<Deadline>, other: Option<Deadline>) -> Option<Deadline>
+    ensures { result ≡ sooner one other }
+{
+    match (one, other) {
+        (None, other) => other,
+        (one, None) => one,
+        (Some(one), Some(other)) => Some(if other.is_before(&one) { other } else { one }),
     }
 }

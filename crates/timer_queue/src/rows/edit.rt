@@ -1,12 +1,13 @@
-ghost use Rattle.std.specs.Prelude.{◌≡◌, ◌≤◌, true, length, is_some};
+ghost use Rattle.std.specs.Prelude.{◌≡◌, IfOk};
 ghost use Rattle.std.specs.Vec.{vec_capacity};
-ghost use Rattle.timer_queue.specs.Kept.{AreRising, those_in};
-ghost use Rattle.timer_queue.specs.Rows.{row_at, place_at, with_row};
-ghost use Rattle.timer_queue.specs.Trees.{IsTree, nodes_of};
+ghost use Rattle.least_tree.specs.Numbers.{with_room};
+ghost use Rattle.timer_queue.specs.Kept.{those_in};
+ghost use Rattle.timer_queue.specs.Keys.{keys_in};
 
 use super::Row;
-use crate::tree::raise;
-use net_base::Deadline;
+use least_tree::LeastTree;
+use net_base::OutOfMemory;
+use std::alloc::{AllocError, Global};
 
 // Drops the rows of those that have left.
 pub fn drop_gone(rows: &mut Vec<Row>)
@@ -16,22 +17,19 @@ pub fn drop_gone(rows: &mut Vec<Row>)
     rows.retain(|row| row.enrolled);
 }
 
-// Puts a row in the place of the one of its id. Where its first timer is the same, the tree stays.
-pub fn put(rows: &mut Vec<Row>, inner: &mut Vec<Option<Deadline>>, place: usize, row: Row)
-    requires rise { AreRising rows.old.items }
-    requires fit { length rows.old.items ≤ length inner.old.items }
-    requires tree { IsTree inner.old.items (nodes_of rows.old.items) }
-    requires there { is_some (row_at row.cid rows.old.items) ≡ true }
-    requires place { place ≡ place_at row.cid rows.old.items }
-    ensures rows { rows.new.items ≡ with_row row rows.old.items }
-    ensures memory { vec_capacity rows.new ≡ vec_capacity rows.old }
-    ensures length { length inner.new.items ≡ length inner.old.items }
-    ensures tree { IsTree inner.new.items (nodes_of rows.new.items) }
+// The keys of those that have not left, and room for as many again.
+pub fn tree_over(alloc: Global, rows: &[Row]) -> Result<LeastTree, OutOfMemory>
+    ensures { IfOk result (λ tree. tree ≡ with_room (keys_in (those_in rows.now))) }
 {
-    let first = row.first();
-    let stays = first == rows[place].first();
-    rows[place] = row;
-    if !stays {
-        raise(inner, rows, place, first);
-    }
+    let keys = keys(alloc, rows)?;
+    LeastTree::over(alloc, &keys)
+}
+
+fn keys(alloc: Global, rows: &[Row]) -> Result<Vec<u128>, AllocError>
+    ensures { IfOk result (λ keys. keys.items ≡ keys_in (those_in rows.now)) }
+{
+    rows.iter()
+        .filter(|row| row.enrolled)
+        .map(|row| row.key())
+        .collect(alloc)
 }

@@ -1,4 +1,4 @@
-ghost use Rattle.std.specs.Prelude.{◌≡◌, ◌≤◌, true, is_some, length, slice_get};
+ghost use Rattle.std.specs.Prelude.{◌≡◌, ◌≤◌, true, is_some, length, option_map, slice_get};
 ghost use Rattle.std.specs.Bool.{then_some};
 ghost use Rattle.timer_queue.specs.Kept.{AreRising};
 ghost use Rattle.timer_queue.specs.Rows.{row_at, found_at, place_at};
@@ -46,4 +46,13 @@ fn is_at(rows: &[Row], place: usize, cid: Cid) -> bool
         Some(row) => row.cid == cid,
         None => false,
     }
+}
+
+// The row of an id.
+pub fn row_in(rows: &[Row], cid: Cid) -> Option<&Row>
+    requires { AreRising rows.now }
+    ensures { option_map (λ r. r.now) result ≡ row_at cid rows.now }
+{
+    let row = rows.get(place_of(rows, cid))?;
+    (row.cid == cid).then_some(row)
 }

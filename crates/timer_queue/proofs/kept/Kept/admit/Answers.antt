@@ -1,39 +1,24 @@
-use Rattle.std.proofs.Common.{◌≡◌, List, false, is_some, length, refl, ap, sym, subst, ◌∙◌, arith}
+use Rattle.std.proofs.Common.{◌≡◌, List, false, is_some, ap, sym, subst, ◌∙◌}
 use Rattle.net_base.specs.declared.connection.Cid.{Cid}
-use Rattle.timer_queue.specs.Kept.{AreRising, AreIdle}
 use Rattle.timer_queue.specs.Rows.{row_at, empty_row, with_row}
 use Rattle.timer_queue.specs.declared.rows.Row.{Row}
-use Rattle.timer_queue.proofs.Enrolled.{enrolled_in, enrolled-is, ids_of, ids-again, idle-row, idle-with_row}
+use Rattle.timer_queue.proofs.Enrolled.{enrolled_in, enrolled-is, ids_of, ids-again, idle-row}
 use Rattle.timer_queue.proofs.Puts.{timers-again}
-use Rattle.timer_queue.proofs.RowEdits.{StandsAt, stands_as_found, AreRising-with_row, length-with_row}
+use Rattle.timer_queue.proofs.RowEdits.{StandsAt, stands_as_found}
 use Rattle.timer_queue.proofs.TimersOf.{timers_of}
-use Rattle.timer_queue.proofs.kept.Kept.admit.Goals.{After-put}
+use Rattle.timer_queue.proofs.kept.Kept.admit.Goals.{After-put_row}
 use Rattle.timer_queue.proofs.kept.Kept.admit.Goals as goal
 
-abbrev before : After-put → List Row
+abbrev before : After-put_row → List Row
 before c = c.args.self.now.rows.items
 
-stands : (c : After-put) → StandsAt c.args.cid (before c) c.in-Some.place
+stands : (c : After-put_row) → StandsAt c.args.cid (before c) c.in-Some.place
 stands c =
     stands_as_found c.args.cid (before c) c.deref.result.now c.in-Some.place c.place_in.result c.requires.kept.rise c.deref.ensures.value
     c.place_in.ensures c.in-Some.is
 
-items : (c : After-put) → c.put.new.rows.items ≡ with_row (empty_row c.args.cid) (before c)
-items c = c.put.ensures.rows ∙ ap (λ r. with_row r (before c)) c.empty.ensures
-
-pub returns-in-Some-clause-kept : goal.returns-in-Some-clause-kept
-returns-in-Some-clause-kept c =
-    let rows = before c in
-    let new : Row = empty_row c.args.cid in
-    let kept = c.requires.kept in
-    let is = items c in
-    record {
-      rise = subst AreRising (sym is) (AreRising-with_row new rows kept.rise);
-      idle = subst AreIdle (sym is) (idle-with_row new rows (λ left. refl) kept.idle);
-      fit = omega (arith, ap length is, length-with_row new rows, c.put.ensures.length, kept.fit);
-      memory = omega (arith, c.put.ensures.memory, c.put.ensures.length, kept.memory);
-      tree = c.put.ensures.tree;
-    }
+items : (c : After-put_row) → c.put_row.new.self.rows.items ≡ with_row (empty_row c.args.cid) (before c)
+items c = c.put_row.ensures.rows ∙ ap (λ r. with_row r (before c)) c.empty.ensures
 
 pub returns-in-Some-clause-queue : goal.returns-in-Some-clause-queue
 returns-in-Some-clause-queue c =

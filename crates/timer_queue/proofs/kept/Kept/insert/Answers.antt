@@ -1,13 +1,14 @@
-use Rattle.std.proofs.Common.{◌≡◌, ◌≤◌, cond, List, length, refl, subst, sym, ap, arith, ◌∙◌}
+use Rattle.std.proofs.Common.{◌≡◌, ℕ, ◌≤◌, cond, List, length, refl, subst, sym, ap, arith, ◌∙◌}
 use Rattle.std.specs.List.{insert}
-use Rattle.timer_queue.specs.Kept.{AreRising, AreIdle, all_timers}
+use Rattle.timer_queue.specs.Kept.{AreRising, AreIdle, AreOfWords, IsOver, all_timers}
 use Rattle.timer_queue.specs.Queue.{with_id}
 use Rattle.timer_queue.specs.Rows.{empty_row, with_new_row, place_at}
-use Rattle.timer_queue.specs.Trees.{IsTree, nodes_of}
 use Rattle.timer_queue.specs.declared.rows.Row.{Row}
 use Rattle.timer_queue.proofs.Agreement.{Agree-admitted}
 use Rattle.timer_queue.proofs.Enrolled.{ids_of, ids-new, idle-with_new_row}
-use Rattle.timer_queue.proofs.Raising.{one_behind}
+use Rattle.timer_queue.proofs.Over.{over-insert, over-behind, length-put_among}
+use Rattle.timer_queue.proofs.Words.{words-with_new_row}
+use Rattle.least_tree.specs.Numbers.{none}
 use Rattle.timer_queue.proofs.RowEdits.{AreRising-with_new_row, insert-place_at, length-with_new_row}
 use Rattle.timer_queue.proofs.TimersOf.{timers_of, timers_are, agreeing, in_order-rises}
 use Rattle.timer_queue.proofs.kept.Kept.insert.Goals.{After-insert}
@@ -46,18 +47,27 @@ timers c =
     ∙ timers_are (with_new_row (empty_row c.args.cid) rows) (timers_of rows) (AreRising-with_new_row (empty_row c.args.cid) rows kept.rise c.requires.absent)
     (in_order-rises (all_timers rows)) (Agree-admitted c.args.cid rows (timers_of rows) c.requires.absent (agreeing rows kept.rise))
 
-longer : (c : After-insert) → length c.insert.new.self.items ≤ length c.args.self.now.inner.items
+words : (c : After-insert) → AreOfWords c.insert.new.self.items
+words c = subst AreOfWords (sym (items c)) (words-with_new_row (empty_row c.args.cid) (before c) record { id = omega arith; first = tt } c.requires.kept.words)
+
+longer : (c : After-insert) → length c.insert.new.self.items ≤ length c.args.self.now.keys
 longer c = omega (arith, ap length (items c), length-with_new_row (empty_row c.args.cid) (before c), c.requires.room)
 
 pub returns-then-not-is_last-clause-kept : goal.returns-then-not-is_last-clause-kept
 returns-then-not-is_last-clause-kept c =
     let d = (goal.at.returns-then-not-is_last-clause-kept c).After-insert in
+    let rows = before d in
+    let old : List ℕ = c.args.self.now.keys in
+    let place = c.place_of-place.result in
+    let long = length-put_among old place none in
     record {
       rise = rise d;
       idle = idle d;
-      fit = omega (arith, longer d, c.build.ensures.length);
-      memory = omega (arith, c.insert.ensures.capacity, c.build.ensures.length, c.requires.kept.memory);
-      tree = subst (λ rs. IsTree c.build.new.inner.items (nodes_of rs)) c.deref-then-not-is_last.ensures.value c.build.ensures.tree;
+      words = words d;
+      fit = omega (arith, longer d, ap length c.insert-then-not-is_last.ensures, long);
+      memory = omega (arith, c.insert.ensures.capacity, ap length c.insert-then-not-is_last.ensures, long, c.requires.kept.memory);
+      keys = subst (λ rs. IsOver rs c.insert-then-not-is_last.new.self) (sym (put d))
+          (over-insert rows old place (empty_row c.args.cid) c.insert-then-not-is_last.new.self (omega (arith, c.place_of-place.ensures.bound, ap length c.deref.ensures.value)) c.requires.room c.requires.kept.keys c.insert-then-not-is_last.ensures);
     }
 
 pub returns-then-not-is_last-clause-queue : goal.returns-then-not-is_last-clause-queue
@@ -68,14 +78,15 @@ returns-then-not-is_last-clause-queue c =
 pub returns-else-not-is_last-clause-kept : goal.returns-else-not-is_last-clause-kept
 returns-else-not-is_last-clause-kept c =
     let d = (goal.at.returns-else-not-is_last-clause-kept c).After-insert in
-    let inner = c.args.self.now.inner.items in
+    let keys : List ℕ = c.args.self.now.keys in
     record {
       rise = rise d;
       idle = idle d;
+      words = words d;
       fit = longer d;
       memory = omega (arith, c.insert.ensures.capacity, c.requires.kept.memory);
-      tree = subst (λ rs. IsTree inner (nodes_of rs)) (sym (put d))
-          (one_behind inner (before d) (empty_row c.args.cid) c.place_of-place.result (omega (arith, c.if-not-is_last.false, c.len.ensures, c.args.self.now.rows.ok)) refl c.requires.kept.tree);
+      keys = subst (λ rs. IsOver rs keys) (sym (put d))
+          (over-behind (before d) keys c.place_of-place.result c.args.cid (omega (arith, c.if-not-is_last.false, c.len.ensures, c.args.self.now.rows.ok)) c.requires.room c.requires.kept.keys);
     }
 
 pub returns-else-not-is_last-clause-queue : goal.returns-else-not-is_last-clause-queue

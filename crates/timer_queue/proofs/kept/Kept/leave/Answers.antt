@@ -1,13 +1,13 @@
-use Rattle.std.proofs.Common.{◌≡◌, List, is_some, length, refl, ap, sym, subst, ◌∙◌, arith}
-use Rattle.timer_queue.specs.Kept.{AreRising, AreIdle, queue_of}
+use Rattle.std.proofs.Common.{◌≡◌, List, is_some, ap, sym, ◌∙◌}
+use Rattle.timer_queue.specs.Kept.{queue_of}
 use Rattle.timer_queue.specs.Rows.{gone_row, with_row}
 use Rattle.timer_queue.specs.declared.rows.Row.{Row}
-use Rattle.timer_queue.proofs.Enrolled.{enrolled_in, enrolled-is, ids_of, ids-left, idle-with_row}
+use Rattle.timer_queue.proofs.Enrolled.{enrolled_in, enrolled-is, ids_of, ids-left}
 use Rattle.timer_queue.proofs.Orderly.{nobody_leaves, orderly_when_kept}
 use Rattle.timer_queue.proofs.Puts.{timers-left}
-use Rattle.timer_queue.proofs.RowEdits.{StandsAt, stands_as_found, missing, AreRising-with_row, length-with_row}
+use Rattle.timer_queue.proofs.RowEdits.{StandsAt, stands_as_found, missing}
 use Rattle.timer_queue.proofs.TimersOf.{timers_of}
-use Rattle.timer_queue.proofs.kept.Kept.leave.Goals.{After-put}
+use Rattle.timer_queue.proofs.kept.Kept.leave.Goals.{After-put_row}
 use Rattle.timer_queue.proofs.kept.Kept.leave.Goals as goal
 
 pub returns-in_default-clause-queue : goal.returns-in_default-clause-queue
@@ -18,29 +18,15 @@ returns-in_default-clause-queue c =
     sym (nobody_leaves c.args.cid (queue_of kept) (orderly_when_kept kept c.requires)
     (enrolled-is c.args.cid rows c.requires.rise ∙ ap enrolled_in none))
 
-abbrev before : After-put → List Row
+abbrev before : After-put_row → List Row
 before c = c.args.self.now.rows.items
 
-stands : (c : After-put) → StandsAt c.args.cid (before c) c.in-Some.place
+stands : (c : After-put_row) → StandsAt c.args.cid (before c) c.in-Some.place
 stands c =
     stands_as_found c.args.cid (before c) c.deref.result.now c.in-Some.place c.place_in.result c.requires.rise c.deref.ensures.value c.place_in.ensures c.in-Some.is
 
-items : (c : After-put) → c.put.new.rows.items ≡ with_row (gone_row c.args.cid) (before c)
-items c = c.put.ensures.rows ∙ ap (λ r. with_row r (before c)) c.gone.ensures
-
-pub returns-clause-kept : goal.returns-clause-kept
-returns-clause-kept c =
-    let rows = before c in
-    let new : Row = gone_row c.args.cid in
-    let kept = c.requires in
-    let is = items c in
-    record {
-      rise = subst AreRising (sym is) (AreRising-with_row new rows kept.rise);
-      idle = subst AreIdle (sym is) (idle-with_row new rows (λ left. refl) kept.idle);
-      fit = omega (arith, ap length is, length-with_row new rows, c.put.ensures.length, kept.fit);
-      memory = omega (arith, c.put.ensures.memory, c.put.ensures.length, kept.memory);
-      tree = c.put.ensures.tree;
-    }
+items : (c : After-put_row) → c.put_row.new.self.rows.items ≡ with_row (gone_row c.args.cid) (before c)
+items c = c.put_row.ensures.rows ∙ ap (λ r. with_row r (before c)) c.gone.ensures
 
 pub returns-clause-queue : goal.returns-clause-queue
 returns-clause-queue c =

@@ -1,36 +1,37 @@
-use Rattle.std.proofs.Common.{◌≡◌, ◌≤◌, List, length, map, subst, sym, ap, arith, ◌∙◌}
-use Rattle.std.specs.Vec.{vec_capacity}
-use Rattle.timer_queue.specs.Kept.{AreRising, AreIdle, those_in, in_order}
-use Rattle.timer_queue.specs.Trees.{IsTree, nodes_of}
+use Rattle.std.proofs.Common.{◌≡◌, List, length, map, subst, sym, ap, arith, ◌∙◌}
+use Rattle.least_tree.specs.Numbers.{with_room}
+use Rattle.timer_queue.specs.Keys.{keys_in}
+use Rattle.timer_queue.specs.Kept.{AreRising, AreIdle, AreOfWords, IsOver, those_in, in_order}
 use Rattle.timer_queue.specs.declared.rows.Row.{Row}
-use Rattle.timer_queue.proofs.Dropped.{rise-dropped, idle-dropped, those-again, timers-dropped, fewer, in_either}
+use Rattle.timer_queue.proofs.Dropped.{rise-dropped, idle-dropped, those-again, timers-dropped}
 use Rattle.timer_queue.proofs.Enrolled.{ids_of}
+use Rattle.timer_queue.proofs.Over.{over-anew, length-anew}
 use Rattle.timer_queue.proofs.RowEdits.{cid_of}
 use Rattle.timer_queue.proofs.TimersOf.{timers_of}
+use Rattle.timer_queue.proofs.Words.{words-dropped}
 use Rattle.timer_queue.proofs.kept.Kept.make_room.Goals as goal
 
 pub returns-clause-kept : goal.returns-clause-kept
 returns-clause-kept c =
     let rows : List Row = c.args.self.now.rows.items in
     let old = c.requires in
-    let is : c.widen-widened.new.rows.items ≡ those_in rows = c.widen-widened.ensures.rows ∙ c.drop_gone.ensures.rows in
-    let w = c.widen-widened.ensures in
+    let is : c.drop_gone.new.rows.items ≡ those_in rows = c.drop_gone.ensures.rows ∙ ap those_in c.in_ok-try_reserve.ensures.items in
+    let keys_are : c.in_ok-keys.keys ≡ with_room (keys_in (those_in rows)) =
+    c.in_ok-keys.ensures ∙ ap (λ rs. with_room (keys_in (those_in rs))) c.deref.ensures.value in
+    let long = length-anew (those_in rows) c.in_ok-keys.keys keys_are in
     record {
       rise = subst AreRising (sym is) (rise-dropped rows old.rise);
       idle = subst AreIdle (sym is) (idle-dropped rows old.idle);
-      fit = in_either c.widen-widened.result _ _ (length c.widen-widened.new.rows.items ≤ length c.build.new.inner.items) w.room w.kept
-          (λ h. omega (arith, h, c.build.ensures.length, ap length w.rows))
-          (λ h. omega (arith, ap length h, c.build.ensures.length, ap length is, fewer rows, old.fit));
-      memory = in_either c.widen-widened.result _ _ (length c.build.new.inner.items ≤ vec_capacity c.widen-widened.new.rows) w.memory w.kept
-          (λ h. omega (arith, h, c.build.ensures.length))
-          (λ h. omega (arith, ap length h, c.build.ensures.length, w.no_less, c.drop_gone.ensures.memory, old.memory));
-      tree = subst (λ rs. IsTree c.build.new.inner.items (nodes_of rs)) c.deref.ensures.value c.build.ensures.tree;
+      words = subst AreOfWords (sym is) (words-dropped rows old.words);
+      fit = omega (arith, ap length is, long);
+      memory = omega (arith, c.drop_gone.ensures.memory, c.in_ok-try_reserve.ensures.ok, c.saturating_sub-more.ensures, c.len-3.ensures, c.len-4.ensures, c.in_ok-try_reserve.ensures.len);
+      keys = subst (λ rs. IsOver rs c.in_ok-keys.keys) (sym is) (over-anew (those_in rows) c.in_ok-keys.keys keys_are);
     }
 
 pub returns-clause-queue : goal.returns-clause-queue
 returns-clause-queue c =
     let rows : List Row = c.args.self.now.rows.items in
-    let is : c.widen-widened.new.rows.items ≡ those_in rows = c.widen-widened.ensures.rows ∙ c.drop_gone.ensures.rows in
+    let is : c.drop_gone.new.rows.items ≡ those_in rows = c.drop_gone.ensures.rows ∙ ap those_in c.in_ok-try_reserve.ensures.items in
     let ids = ap ids_of is ∙ ap (map cid_of) (those-again rows) in
     let timers = ap timers_of is ∙ ap in_order (timers-dropped rows c.requires.idle) in
     λ i. record { enrolled = ids i; timers = timers i }

@@ -1,0 +1,5 @@
+pub mod KeyOrder
+pub mod Raising
+pub mod Rooms
+pub mod Roots
+pub mod Sums
