@@ -1,5 +1,5 @@
 -- The moments of a connection, by kind, are those of its deadlines.
-use Rattle.std.proofs.Common.{◌≡◌, List, ◌++◌, map, Option, Some, None, refl, sym, ap, subst, ◌∙◌}
+use Rattle.std.proofs.Common.{◌≡◌, List, [], ◌++◌, map, Option, Some, None, refl, sym, ap, subst, ◌∙◌}
 use Rattle.std.specs.List.{cons_option}
 use Rattle.connections.specs.Owed.{owed_by}
 use Rattle.connections.specs.Timed.{handshake_end, time_wait_end, grace_end, reply_end}

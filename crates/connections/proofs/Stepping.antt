@@ -7,7 +7,7 @@ use Rattle.std.proofs.lemmas.Bool.{cases_Bool}
 use Rattle.conn_state.specs.Use.{has_id, is_live_at, live_at}
 use Rattle.conn_table.specs.Finds.{id_place}
 use Rattle.conn_table.specs.Conditions.{CanStep, after_step}
-use Rattle.conn_table.specs.Rosters.{facts_kept}
+use Rattle.conn_table.specs.Rosters.{IsKept, facts_kept}
 use Rattle.conn_table.specs.Table.{IdsRise, moved_at, with_moved, without, without_at}
 use Rattle.conn_table.specs.declared.roster.Roster.{Roster}
 use Rattle.conn_table.specs.declared.step.Step.{Step}
@@ -33,6 +33,16 @@ use Rattle.connections.proofs.TalkTurns.{Any, Found, found, some_one, facts_plac
 -- what is kept, as a table with its talks
 pub stands : (kept : Kept) → IsWhole kept → IsStanding (table_of kept.settings kept.roster) kept.talks
 stands kept whole = record { ids_rise = whole.roster_kept.ids_rise; talks_are = whole.talks_are }
+
+-- where a look begins is no matter
+pub looked_at : (roster : Roster) (place : ℕ) → IsKept roster → IsKept (record roster { recent = place })
+looked_at roster place kept = record {
+  few = kept.few;
+  ids_rise = kept.ids_rise;
+  last_lives = kept.last_lives;
+  indexed = kept.indexed;
+  counted = kept.counted;
+}
 
 pub keeps_id : (step : Step) (f : Facts) → (after_step step f).cid ≡ f.cid
 keeps_id step f = ap (λ p. p.cid) (step_keeps step f)

@@ -13,7 +13,7 @@ use timer_queue::{Moments, TimerQueue};
 
 // The deadlines of a connection are its timers, in place of those that it had.
 pub fn retime(timers: &mut TimerQueue, facts: &Facts, replies: &Replies)
-    requires enrolled { IsTrue (is_enrolled facts.now.cid timers.old) }
+    requires { IsTrue (is_enrolled facts.now.cid timers.old) }
     ensures enrolled { timers.new.enrolled ≡ timers.old.enrolled }
     ensures timers { HaveSame timers.new.timers
         (deadlines_of (record { facts = facts.now; undecoded = nothing_undecoded; owed = replies.now })

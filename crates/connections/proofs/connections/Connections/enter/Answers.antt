@@ -51,13 +51,13 @@ enter-requires-clause-alone c =
     ap (live_at (facts_of c.args.state).addr) (sym (facts_are c.self.inside.kept c.self.invariant.0))
     ∙ (ap (λ s. live_at (facts_of c.args.state).addr (facts_in s)) c.self.view_is ∙ c.requires.alone)
 
-pub retime-requires-clause-enrolled : goal.retime-requires-clause-enrolled
-retime-requires-clause-enrolled c =
-    let cid_is = ap (λ (p : Placed). p.cid) (placed_is (goal.at.retime-requires-clause-enrolled c).After-link_of) in
+pub retime-requires : goal.retime-requires
+retime-requires c =
+    let cid_is = ap (λ (p : Placed). p.cid) (placed_is (goal.at.retime-requires c).After-link_of) in
     let f = c.facts-facts.result in
     has_room f.cid (come f (standing c.self.inside.kept)) c.enroll.new.timers
     (come_but f (standing c.self.inside.kept) c.self.inside.timers c.enroll.new.timers c.self.invariant.1.0
-    (below (goal.at.retime-requires-clause-enrolled c).After-self)
+    (below (goal.at.retime-requires c).After-self)
     (c.in_ok-enroll.ensures.timers ∙ ap (λ i. with_enrolled i c.self.inside.timers) cid_is) c.in_ok-enroll.ensures.orderly)
 
 pub invariant_of-self-in-Ok : goal.invariant_of-self-in-Ok

@@ -6,7 +6,7 @@ use Rattle.connections.specs.Kept.{table_of, standing}
 use Rattle.connections.specs.Standing.{entry_with, fed_entry, fed_of, unread}
 use Rattle.connections.specs.Talks.{IsFed, TurnsAt, with_cutter, fed_talk}
 use Rattle.connections.proofs.LinkedTurns.{linked_same}
-use Rattle.connections.proofs.Stepping.{said, any_in, talk_inside, talk_turns}
+use Rattle.connections.proofs.Stepping.{looked_at, said, any_in, talk_inside, talk_turns}
 use Rattle.connections.proofs.TalkFeeds.{fed_entry-talk, fed_of-talk, in_either}
 use Rattle.connections.proofs.TalkTurns.{Any, talk_at, IsTurn}
 use Rattle.connections.proofs.TimedTurns.{stands_in, turned_same}
@@ -48,7 +48,7 @@ invariant_of-self c =
     (λ h. (
       record {
         settings_sound = c.self.invariant.0.settings_sound;
-        roster_kept = c.self.invariant.0.roster_kept;
+        roster_kept = looked_at c.self.inside.kept.roster c.place_of-place.result c.self.invariant.0.roster_kept;
         talks_are = (fed d h).stands.talks_are;
         ordered = c.self.invariant.0.ordered;
       },
@@ -60,7 +60,7 @@ invariant_of-self c =
     (λ h. (
       record {
         settings_sound = c.self.invariant.0.settings_sound;
-        roster_kept = c.self.invariant.0.roster_kept;
+        roster_kept = looked_at c.self.inside.kept.roster c.place_of-place.result c.self.invariant.0.roster_kept;
         talks_are = (emptied d h).stands.talks_are;
         ordered = c.self.invariant.0.ordered;
       },

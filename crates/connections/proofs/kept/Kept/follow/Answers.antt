@@ -29,9 +29,9 @@ what_stands : (c : After-at-talk) → Read c.args.cid c.args.self.now c.at-facts
 what_stands c = read c.args.cid c.args.place c.args.self.now c.at-facts.result.now c.at-talk.result.now c.requires.whole c.requires.timed.stands c.requires.place
     c.at-facts.ensures c.at-talk.ensures
 
-pub retime-requires-clause-enrolled : goal.retime-requires-clause-enrolled
-retime-requires-clause-enrolled c =
-    let r = what_stands (goal.at.retime-requires-clause-enrolled c).After-at-talk in
+pub retime-requires : goal.retime-requires
+retime-requires c =
+    let r = what_stands (goal.at.retime-requires c).After-at-talk in
     let own : r.it.facts.cid ≡ c.args.cid =
     own_id c.args.cid (entries_of (facts_kept c.args.self.now.roster) c.args.self.now.talks) (entry_of r.it.facts r.it.talk) r.it.at.entry_there in
     ap (λ (i : Cid). is_enrolled i c.args.timers.now) (ap (λ (f : Facts). f.cid) r.facts_are ∙ own)
