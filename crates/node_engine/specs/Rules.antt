@@ -12,7 +12,7 @@ use Rattle.peers.specs.declared.rule.Rule.{Rule}
 abbrev pub orders_by : ℕ → Rule → Machine → List Order
 orders_by word rule m = peers.orders_by rule (view_of word m) (peers_of m)
 
--- The first rules give no orders, the one behind them gives some, and others stand behind that.
+-- Following rules comes to carrying out some orders, which may be, and then following the rules behind.
 pub record AreFirst (each : Rule → Machine → List Order) (rules : List Rule) (orders : List Order) (after : List Rule) (m : Machine) : Type 0 where
   pub same : for_each follows (map each rules) m ≡ then_do (for_each carries_out orders m) (for_each follows (map each after))
   pub may : MayAll orders m

@@ -55,7 +55,8 @@ impl NodeState {
         Ok(())
     }
 
-    // The orders of the first rule that gives some, and the rules behind it. Nothing changes before, so all of them see the same.
+    // The orders of the first rule that gives some, and the rules behind it. Nothing changes before, so all up to there see
+    // the same.
     fn first_orders<'r>(
         &self,
         rules: &'r [Rule],
