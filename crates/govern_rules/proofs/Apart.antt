@@ -1,5 +1,5 @@
 -- Distinct addresses, and peers with them.
-use Rattle.std.proofs.Common.{◌≡◌, ℕ, suc, zero, ◌<◌, Bool, false, List, [], ◌∷◌, ◌++◌, map, length, get_or, refl, inl, inr, arith}
+use Rattle.std.proofs.Common.{◌≡◌, ℕ, suc, zero, ◌<◌, Bool, false, List, [], ◌∷◌, ◌++◌, map, length, get_or, refl, ap, inl, inr, arith}
 use Rattle.std.specs.List.{AllByRecursion, IsDistinct, filter}
 use Rattle.std.specs.List.Sorted.{IsPermutation}
 use Rattle.std.proofs.lemmas.Bool.{cases_Bool}
@@ -13,6 +13,10 @@ use Rattle.peer_book.specs.Order.{IsRising}
 use Rattle.peer_book.proofs.BookFacts.{IsDistinct-rising}
 use Rattle.pick_policy.proofs.Distinct.{IsDistinct-permutation}
 use Rattle.root_groups.specs.Cleaned.{members_of}
+
+pub map-twice : {X Y Z : Type 0} (f : Y → Z) (g : X → Y) (xs : List X) → map f (map g xs) ≡ map (λ x. f (g x)) xs
+map-twice f g [] = refl
+map-twice f g (x ∷ xs) = ap (λ l. f (g x) ∷ l) (map-twice f g xs)
 
 -- ---- after a filter
 

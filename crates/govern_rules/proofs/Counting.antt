@@ -1,10 +1,11 @@
 -- Peers that have a link with a mark are counted by a look through the links.
-use Rattle.std.proofs.Common.{◌≡◌, ℕ, ◌+◌, Bool, true, false, cond, ◌&&◌, ◌||◌, List, [], ◌∷◌, length, drop, get_or, ◌<◌, Option, Some, None, refl, sym, ap, ◌∙◌, inl, inr, arith}
+use Rattle.std.proofs.Common.{◌≡◌, ℕ, ◌+◌, Bool, true, false, cond, ◌&&◌, ◌||◌, List, [], ◌∷◌, ◌++◌, length, drop, get_or, ◌<◌, ◌≤◌, Option, Some, None, refl, sym, ap, ◌∙◌, inl, inr, arith}
 use Rattle.std.specs.List.{IsDistinct, filter, count_by, list_any}
 use Rattle.std.specs.Option.{option_to_list}
 use Rattle.std.proofs.lemmas.Bool.{cases_Bool, and_parts, false_from_ne_true, true≢false}
-use Rattle.std.proofs.lemmas.List.{drop_more}
-use Rattle.std.proofs.lemmas.List.Sums.{sum_by-cons, length-filter}
+use Rattle.std.proofs.lemmas.List.{drop_more, length-append}
+use Rattle.std.proofs.lemmas.List.Elements.{filter-append}
+use Rattle.std.proofs.lemmas.List.Sums.{count_by-le-length, sum_by-cons, length-filter}
 use Rattle.net_base.specs.Address.{same_address}
 use Rattle.net_base.specs.declared.address.Addr.{Addr}
 use Rattle.net_base.specs.declared.peer.Peer.{Peer}
@@ -52,6 +53,22 @@ count-nobody big (p ∷ peers) =
     nothing : (b : Bool) → cond {A = ℕ} (b && false) 1 0 ≡ 0
     nothing true = refl
     nothing false = refl
+
+pub counted-more : (test : Peer → Bool) (xs ys : List Peer) → count_by test (xs ++ ys) ≡ count_by test xs + count_by test ys
+counted-more test xs ys =
+    omega (
+      arith,
+      ap length (filter-append test xs ys),
+      length-append (filter test xs) (filter test ys),
+      length-filter test (xs ++ ys),
+      length-filter test xs,
+      length-filter test ys,
+    )
+
+-- one peer at most counts once at most
+pub counted-once : (test : Peer → Bool) (o : Option Peer) → count_by test (option_to_list o) ≤ 1
+counted-once test None = omega (arith, count_by-le-length test [])
+counted-once test (Some p) = omega (arith, count_by-le-length test (p ∷ []))
 
 -- ---- the peer of an address
 

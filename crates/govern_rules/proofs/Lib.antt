@@ -3,6 +3,7 @@ pub mod ByAddress
 pub mod Counting
 pub mod FoundMembers
 pub mod Members
+pub mod Nobody
 pub mod Known
 pub mod Picking
 pub mod Rows

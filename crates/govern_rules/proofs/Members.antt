@@ -1,7 +1,7 @@
 -- What is done with the members of a group, by those that were looked up.
-use Rattle.std.proofs.Common.{◌≡◌, ℕ, ◌-◌, Bool, true, false, ◌&&◌, ◌||◌, List, [], ◌∷◌, length, map, refl, sym, ap, ◌∙◌, inl, inr}
+use Rattle.std.proofs.Common.{◌≡◌, ℕ, ◌-◌, Bool, true, false, ◌&&◌, ◌||◌, List, [], ◌∷◌, length, map, refl, sym, ap, ◌∙◌}
 use Rattle.std.specs.List.{IsDistinct, filter, count_by, flat_map}
-use Rattle.std.proofs.lemmas.Bool.{cases_Bool, and_parts, true≢false, false_from_ne_true}
+use Rattle.std.proofs.lemmas.Bool.{and_parts}
 use Rattle.std.proofs.lemmas.List.Sorted.{sum_by-IsPermutation}
 use Rattle.std.proofs.lemmas.List.Sums.{length-filter}
 use Rattle.net_base.specs.Address.{same_address}
@@ -25,6 +25,7 @@ use Rattle.govern_rules.specs.declared.valency.Valency.TheVariants.{WarmUp, HotU
 use Rattle.govern_rules.specs.declared.view.View.{View}
 use Rattle.govern_rules.proofs.Apart.{IsDistinct-filter, apart-permuted}
 use Rattle.govern_rules.proofs.FoundMembers.{filter-twice, filter-same, found_members}
+use Rattle.govern_rules.proofs.Nobody.{nil-map, stricter}
 use Rattle.govern_rules.proofs.Picking.{picks-filtered, no-orders, no-peers}
 use Rattle.govern_rules.proofs.Suiting.{turned}
 
@@ -110,20 +111,6 @@ orders-none valency view group peers number apart missing none =
     (sym (missing ∙ missed-found valency view group peers apart) ∙ none)
 
 -- ---- nobody has the temperature
-
-nil-map : {X Y : Type 0} (f : X → Y) (xs : List X) → map f xs ≡ [] → xs ≡ []
-nil-map f [] h = refl
-nil-map f (x ∷ xs) h = cc
-
--- where none passes a test, none passes a stricter one
-stricter : {X : Type 0} (p q : X → Bool) → ((x : X) → p x ≡ true → q x ≡ true) → (xs : List X) → filter q xs ≡ [] → filter p xs ≡ []
-stricter p q more [] none = refl
-stricter {X} p q more (x ∷ xs) none = elim (cases_Bool (q x)) [
-  | inl passes ↦ let some : x ∷ filter q xs ≡ [] = rw passes at none in cc
-  | inr fails ↦
-      let out : p x ≡ false = false_from_ne_true (p x) (λ h. true≢false (sym (more x h) ∙ fails)) in
-      rw out (stricter p q more xs (rw fails at none))
-]
 
 has_temp : (valency : Valency) (moment : ℕ) (links : List Link) (p : Peer) → may_be_given (valency_task valency) moment links p ≡ true →
     same_temp p.temp (valency_temp valency) ≡ true

@@ -7,9 +7,9 @@ use Rattle.std.proofs.lemmas.List.Sums.{prefix_len-drop_all, prefix_len-le-lengt
 use Rattle.std.proofs.lemmas.Option.{slice_get-get_or}
 use Rattle.net_base.specs.Address.{same_address, address_below}
 use Rattle.net_base.specs.declared.address.Addr.{Addr}
-use Rattle.net_base.proofs.AddressOrder.{address_connected, address_transitive, same_address-is}
+use Rattle.net_base.proofs.AddressOrder.{address_connected, address_transitive, address_turned, never_both, same_address-is}
 use Rattle.govern_rules.specs.SortedLinks.{IsInOrder, is_below, links_of}
-use Rattle.govern_rules.specs.Walks.{IsRunFrom, HasCome, passed_by, is_over, is_below_at, has_address_at}
+use Rattle.govern_rules.specs.Walks.{IsRunFrom, HasCome, passed_by, is_over, is_before_at, is_below_at, has_address_at}
 use Rattle.govern_rules.specs.declared.link.Link.{Link}
 use Rattle.govern_rules.proofs.ByAddress.{in_order-drop, none_behind, own_behind}
 
@@ -139,6 +139,34 @@ none_there addr (l ∷ links) run ordered front some other = elim (cases_lt plac
 
     place : ℕ
     place = prefix_len (is_below addr) all
+
+-- where the next link is behind an address that is not below the last one, no link has it
+
+pub passed_by_all : (addr : Addr) (links : List Link) (last : Option Addr) (place : ℕ) (run : List Link) → HasCome links last place run →
+    is_over last addr ≡ false → is_before_at addr (slice_get run 0) ≡ true → links_of addr links ≡ []
+passed_by_all addr [] last place run come over before = refl
+passed_by_all addr (l ∷ links) last place run come over before =
+    let at : prefix_len (is_below addr) all ≡ place = prefix_len_is (is_below addr) all place l (omega (arith, few_passed last all, come.passed)) passes stops in
+    none_there addr all run come.ordered (subst (λ n. IsRunFrom n all run) (sym at) come.front)
+    (subst (λ n. n < length all → 0 < length run) (sym at) come.some) (elsewhere (slice_get run 0) before)
+  where
+    all : List Link
+    all = l ∷ links
+
+    passes : (k : ℕ) → k < place → is_below addr (get_or all k l) ≡ true
+    passes k before = still_passed addr last all k l over (omega (arith, before, come.passed))
+
+    stops : place < length all → is_below addr (get_or all place l) ≡ false
+    stops inside =
+        let some : 0 < length run = come.some inside in
+        let same_place : place + 0 ≡ place = omega arith in
+        let first_is : slice_get run 0 ≡ Some (get_or all place l) =
+        slice_get-get_or run 0 l some ∙ ap Some (run-item all run place 0 l come.front some ∙ ap (λ n. get_or all n l) same_place) in
+        never_both addr (get_or all place l).addr (sym (ap (is_before_at addr) first_is) ∙ before)
+
+    elsewhere : (o : Option Link) → is_before_at addr o ≡ true → has_address_at addr o ≡ false
+    elsewhere None before = refl
+    elsewhere (Some f) before = address_turned f.addr addr before
 
 -- ---- how many are passed of some
 

@@ -1,5 +1,5 @@
 -- Walks past links in order of address, and past peers beside them.
-use Rattle.std.specs.Prelude.{ℕ, ◌≡◌, ◌<◌, Bool, false, not, List, take, drop, length, Option, Some, None}
+use Rattle.std.specs.Prelude.{ℕ, ◌≡◌, ◌<◌, Bool, true, false, not, List, take, drop, length, Option, Some, None}
 use Rattle.std.specs.List.{AllByRecursion, prefix_len}
 use Rattle.net_base.specs.Address.{same_address, address_below}
 use Rattle.net_base.specs.declared.address.Addr.{Addr}
@@ -28,6 +28,11 @@ pub record HasCome (links : List Link) (last : Option Addr) (place : ℕ) (run :
   pub passed : place ≡ passed_by last links
   pub front : IsRunFrom place links run
   pub some : place < length links → 0 < length run
+
+-- there is no link, or an address is below its own
+abbrev pub is_before_at : Addr → Option Link → Bool
+is_before_at addr None = true
+is_before_at addr (Some l) = address_below addr l.addr
 
 -- there is a link, and its address is below one
 abbrev pub is_below_at : Addr → Option Link → Bool

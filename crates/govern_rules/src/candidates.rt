@@ -1,10 +1,13 @@
-ghost use Rattle.std.specs.Prelude.{◌≡◌, ◌++◌, filter, IfOk, OnOk};
+ghost use Rattle.std.specs.Prelude.{◌≡◌, ℕ, true, [], List, ◌++◌, filter, IfOk, OnOk};
 ghost use Rattle.std.specs.List.{IsDistinct};
 ghost use Rattle.std.specs.List.Sorted.{IsPermutation};
 ghost use Rattle.net_base.specs.Address.{same_address};
 ghost use Rattle.peer_book.specs.Book.{addresses_of, listed_at};
 ghost use Rattle.govern_rules.specs.Search.{suits, lookups};
+ghost use Rattle.govern_rules.specs.Tasks.{may_be_given};
+ghost use Rattle.govern_rules.specs.declared.link.Link.{Link};
 
+use crate::found::Found;
 use crate::nearby::Nearby;
 use crate::search::Search;
 use crate::task::Task;
@@ -15,12 +18,16 @@ use std::alloc::{AllocError, Global};
 
 // The peers of the book that suit. Warm and hot ones are found by their rows. Most peers are cold, so cold ones are
 // found by a walk through the book, which costs less than a look-up of each.
-pub fn candidates(alloc: Global, search: &Search, book: &PeerBook) -> Result<Vec<Peer>, AllocError>
-    ensures value { IfOk result (λ cands. IsPermutation (filter (suits search.now) book.now) cands.items) }
-    ensures apart { IfOk result (λ cands. IsDistinct same_address (addresses_of cands.items)) }
+pub fn candidates<'a>(
+    alloc: Global,
+    search: &Search,
+    book: &'a PeerBook,
+) -> Result<Found<'a>, AllocError>
+    ensures value { IfOk result (λ cands. IsPermutation (filter (suits search.now) book.now) cands) }
+    ensures apart { IfOk result (λ cands. IsDistinct same_address (addresses_of cands)) }
 {
     if book.is_empty() {
-        return Ok(Vec::new(alloc));
+        return Ok(Found::new(alloc));
     }
     match search.task {
         Task::Asking(_) => established(alloc, search, book),
@@ -30,11 +37,23 @@ pub fn candidates(alloc: Global, search: &Search, book: &PeerBook) -> Result<Vec
     }
 }
 
-// Those of all peers that suit, of those that stand together at a time. Their links are passed beside them.
-fn known(alloc: Global, search: &Search, book: &PeerBook) -> Result<Vec<Peer>, AllocError>
-    ensures { IfOk result (λ cands. cands.items ≡ filter (suits search.now) book.now) }
+// Whether nobody has a temperature at which a peer is given a task.
+pub fn has_nobody(task: Task, book: &PeerBook) -> bool
+    ensures { result ≡ true → (moment : ℕ) (links : List Link) → filter (may_be_given task moment links) book.now ≡ [] }
 {
-    let mut cands = Vec::new(alloc);
+    match task {
+        Task::Asking(_) => book.listed(Temp::Warm).is_empty() && book.listed(Temp::Hot).is_empty(),
+        Task::Forgetting | Task::Promoting => book.listed(Temp::Cold).is_empty(),
+        Task::Releasing | Task::Activating => book.listed(Temp::Warm).is_empty(),
+        Task::Deactivating => book.listed(Temp::Hot).is_empty(),
+    }
+}
+
+// Those of all peers that suit, of those that stand together at a time. Their links are passed beside them.
+fn known<'a>(alloc: Global, search: &Search, book: &'a PeerBook) -> Result<Found<'a>, AllocError>
+    ensures { IfOk result (λ cands. cands ≡ filter (suits search.now) book.now) }
+{
+    let mut cands = Found::new(alloc);
     let mut walk = search.view.links.walk();
     let mut place = 0;
     while place < book.len() {
@@ -46,69 +65,75 @@ fn known(alloc: Global, search: &Search, book: &PeerBook) -> Result<Vec<Peer>, A
 }
 
 // Those of a temperature that suit.
-fn listed(
+fn listed<'a>(
     alloc: Global,
     search: &Search,
     temp: Temp,
-    book: &PeerBook,
-) -> Result<Vec<Peer>, AllocError>
-    ensures { IfOk result (λ cands. cands.items ≡ filter (suits search.now) (lookups book.now (listed_at temp book.now))) }
+    book: &'a PeerBook,
+) -> Result<Found<'a>, AllocError>
+    ensures { IfOk result (λ cands. cands ≡ filter (suits search.now) (lookups book.now (listed_at temp book.now))) }
 {
     let addrs = book.listed(temp).to_vec(alloc)?;
     found(alloc, search, &addrs, book)
 }
 
 // The warm ones, and then the hot ones.
-fn established(alloc: Global, search: &Search, book: &PeerBook) -> Result<Vec<Peer>, AllocError>
-    ensures { IfOk result (λ cands. cands.items
+fn established<'a>(
+    alloc: Global,
+    search: &Search,
+    book: &'a PeerBook,
+) -> Result<Found<'a>, AllocError>
+    ensures { IfOk result (λ cands. cands
         ≡ filter (suits search.now) (lookups book.now (listed_at Temp.Warm book.now)) ++ filter (suits search.now) (lookups book.now (listed_at Temp.Hot book.now))) }
 {
     let mut cands = listed(alloc, search, Temp::Warm, book)?;
     let hot = listed(alloc, search, Temp::Hot, book)?;
-    cands.extend_from_slice(&hot)?;
+    cands.extend(&hot)?;
     Ok(cands)
 }
 
 // Those of some peers that suit.
-pub fn among(alloc: Global, search: &Search, peers: &[Peer]) -> Result<Vec<Peer>, AllocError>
-    ensures { IfOk result (λ cands. cands.items ≡ filter (suits search.now) peers.now) }
+pub fn among<'a>(alloc: Global, search: &Search, peers: &'a [Peer]) -> Result<Found<'a>, AllocError>
+    ensures { IfOk result (λ cands. cands ≡ filter (suits search.now) peers.now) }
 {
-    peers
-        .iter()
-        .filter(|peer| search.suits(peer))
-        .copied()
-        .collect(alloc)
+    let mut cands = Found::new(alloc);
+    for peer in peers {
+        if search.suits(peer) {
+            cands.push(peer)?;
+        }
+    }
+    Ok(cands)
 }
 
 // Those of some peers that suit, behind others.
-fn take_in(
-    cands: &mut Vec<Peer>,
+fn take_in<'a>(
+    cands: &mut Found<'a>,
     search: &Search,
     walk: &mut Walk,
-    peers: &[Peer],
+    peers: &'a [Peer],
 ) -> Result<(), AllocError>
     requires { walk.old ≡ search.now.view.now.links }
     ensures same { walk.new ≡ walk.old }
-    ensures cands { OnOk result (cands.new.items ≡ cands.old.items ++ filter (suits search.now) peers.now) }
+    ensures cands { OnOk result (cands.new ≡ cands.old ++ filter (suits search.now) peers.now) }
 {
     for peer in peers {
         if search.suits_beside(peer, walk) {
-            cands.push(*peer)?;
+            cands.push(peer)?;
         }
     }
     Ok(())
 }
 
 // Those with some addresses that suit. Peers and links are passed beside the addresses.
-fn found(
+fn found<'a>(
     alloc: Global,
     search: &Search,
     addrs: &[Addr],
-    book: &PeerBook,
-) -> Result<Vec<Peer>, AllocError>
-    ensures { IfOk result (λ cands. cands.items ≡ filter (suits search.now) (lookups book.now addrs.now)) }
+    book: &'a PeerBook,
+) -> Result<Found<'a>, AllocError>
+    ensures { IfOk result (λ cands. cands ≡ filter (suits search.now) (lookups book.now addrs.now)) }
 {
-    let mut cands = Vec::new(alloc);
+    let mut cands = Found::new(alloc);
     let mut walk = search.view.links.walk();
     let mut nearby = Nearby::new(book);
     for addr in addrs {

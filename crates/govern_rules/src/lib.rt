@@ -5,6 +5,7 @@
 mod big_rule;
 mod big_rules;
 mod candidates;
+mod found;
 mod link;
 mod link_rows;
 mod links;

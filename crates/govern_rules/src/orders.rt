@@ -2,13 +2,14 @@ ghost use Rattle.std.specs.Prelude.{◌≡◌, map, true, false, IfOk};
 ghost use Rattle.std.specs.List.{IsDistinct};
 ghost use Rattle.net_base.specs.Address.{same_address};
 ghost use Rattle.peer_book.specs.Book.{addresses_of};
-ghost use Rattle.govern_rules.specs.Orders.{picks_of, rated_of};
+ghost use Rattle.govern_rules.specs.Orders.{picks_of};
 ghost use Rattle.govern_rules.specs.Tasks.{order_of};
 
 use crate::Order;
+use crate::found::Found;
 use crate::task::{Task, order_of};
-use net_base::{Addr, OutOfMemory, Peer};
-use pick_policy::{Picker, RankedPicker, Rated};
+use net_base::{Addr, OutOfMemory};
+use pick_policy::{Picker, RankedPicker};
 use std::alloc::{AllocError, Global};
 
 // One order for each of the candidates that are picked as ordinary peers are.
@@ -17,13 +18,13 @@ pub fn ordinary_orders(
     task: Task,
     number: u64,
     word: u64,
-    cands: &[Peer],
+    cands: &Found,
     picker: &Picker,
 ) -> Result<Vec<Order>, OutOfMemory>
     requires { IsDistinct same_address (addresses_of cands.now) }
     ensures { IfOk result (λ orders. orders.items ≡ map (order_of task) (picks_of false word number cands.now)) }
 {
-    let addrs = addresses(alloc, cands)?;
+    let addrs = cands.addresses(alloc)?;
     let picks = picker.pick(alloc, &addrs, number as usize, word)?;
     Ok(given(alloc, task, picks.as_slice())?)
 }
@@ -34,13 +35,13 @@ pub fn big_orders(
     task: Task,
     number: u64,
     word: u64,
-    cands: &[Peer],
+    cands: &Found,
     picker: &RankedPicker,
 ) -> Result<Vec<Order>, OutOfMemory>
     requires { IsDistinct same_address (addresses_of cands.now) }
     ensures { IfOk result (λ orders. orders.items ≡ map (order_of task) (picks_of true word number cands.now)) }
 {
-    let rated = rated(alloc, cands)?;
+    let rated = cands.rated(alloc)?;
     let picks = picker.pick(alloc, &rated, number as usize, word)?;
     Ok(given(alloc, task, picks.as_slice())?)
 }
@@ -52,25 +53,4 @@ fn given(alloc: Global, task: Task, picks: &[Addr]) -> Result<Vec<Order>, AllocE
         .iter()
         .map(|addr| order_of(task, *addr))
         .collect(alloc)
-}
-
-fn addresses(alloc: Global, cands: &[Peer]) -> Result<Vec<Addr>, AllocError>
-    ensures { IfOk result (λ addrs. addrs.items ≡ addresses_of cands.now) }
-{
-    cands.iter().map(|peer| peer.addr).collect(alloc)
-}
-
-fn rated(alloc: Global, cands: &[Peer]) -> Result<Vec<Rated>, AllocError>
-    ensures { IfOk result (λ rated. rated.items ≡ map rated_of cands.now) }
-{
-    cands.iter().map(|peer| rated_of(peer)).collect(alloc)
-}
-
-fn rated_of(peer: &Peer) -> Rated
-    ensures { result ≡ rated_of peer.now }
-{
-    Rated {
-        addr: peer.addr,
-        failures: peer.failures,
-    }
 }

@@ -2,7 +2,7 @@ ghost use Rattle.std.specs.Prelude.{◌≡◌, true, false, IfOk};
 ghost use Rattle.govern_rules.specs.Tasks.{task_orders};
 ghost use Rattle.govern_rules.specs.Whom.{is_meant};
 
-use crate::candidates::candidates;
+use crate::candidates::{candidates, has_nobody};
 use crate::numbers::number_of;
 use crate::orders::{big_orders, ordinary_orders};
 use crate::search::Search;
@@ -14,7 +14,8 @@ use peer_book::PeerBook;
 use pick_policy::{Picker, RankedPicker};
 use std::alloc::Global;
 
-// The orders of a rule by the targets for ordinary peers. Where none is wanted, no peer is looked at.
+// The orders of a rule by the targets for ordinary peers. Where nobody has the temperature that is asked for, nothing is
+// counted; where none is wanted, no peer is looked at.
 pub fn ordinary_task(
     alloc: Global,
     task: Task,
@@ -25,6 +26,9 @@ pub fn ordinary_task(
 ) -> Result<Vec<Order>, OutOfMemory>
     ensures { IfOk result (λ orders. orders.items ≡ task_orders task false (is_meant whom.now) view.now book.now) }
 {
+    if has_nobody(task, book) {
+        return Ok(Vec::new(alloc));
+    }
     let number = number_of(task, false, view, book);
     if number == 0 {
         return Ok(Vec::new(alloc));
@@ -50,6 +54,9 @@ pub fn big_task(
 ) -> Result<Vec<Order>, OutOfMemory>
     ensures { IfOk result (λ orders. orders.items ≡ task_orders task true (is_meant whom.now) view.now book.now) }
 {
+    if has_nobody(task, book) {
+        return Ok(Vec::new(alloc));
+    }
     let number = number_of(task, true, view, book);
     if number == 0 {
         return Ok(Vec::new(alloc));

@@ -1,11 +1,13 @@
-ghost use Rattle.std.specs.Prelude.{◌≡◌, ◌++◌, IfOk, OnOk};
+ghost use Rattle.std.specs.Prelude.{◌≡◌, ◌++◌, false, IfOk};
 ghost use Rattle.std.specs.List.{IsDistinct, flat_map};
 ghost use Rattle.net_base.specs.Address.{same_address};
 ghost use Rattle.peer_book.specs.Book.{addresses_of};
 ghost use Rattle.govern_rules.specs.Members.{valency_task, valency_temp, valency_number, valency_orders};
 ghost use Rattle.govern_rules.specs.Search.{lookups};
+ghost use Rattle.govern_rules.specs.Statuses.{count_with};
 
 use crate::candidates::among;
+use crate::nearby::Nearby;
 use crate::orders::ordinary_orders;
 use crate::search::Search;
 use crate::status::{Status, count_with};
@@ -49,48 +51,45 @@ pub fn groups_orders(
     if book.listed(temp_of(valency)).is_empty() {
         return Ok(orders);
     }
-    let mut known = Vec::new(alloc);
     for group in groups.list().as_slice() {
-        look_up(&mut known, group.members.as_slice(), book)?;
-        let more = group_orders(alloc, valency, view, group, &known, book, picker)?;
+        let more = group_orders(alloc, valency, view, group, book, picker)?;
         orders.extend_from_slice(&more)?;
     }
     Ok(orders)
 }
 
-// The peers with some addresses, in place of others.
-fn look_up(known: &mut Vec<Peer>, addrs: &[Addr], book: &PeerBook) -> Result<(), OutOfMemory>
-    ensures { OnOk result (known.new.items ≡ lookups book.now addrs.now) }
+// The peers with some addresses.
+fn look_up(alloc: Global, addrs: &[Addr], book: &PeerBook) -> Result<Vec<Peer>, OutOfMemory>
+    ensures { IfOk result (λ known. known.items ≡ lookups book.now addrs.now) }
 {
-    known.clear();
+    let mut known = Vec::new(alloc);
     for addr in addrs {
         if let Some(peer) = book.get(*addr) {
             known.push(peer)?;
         }
     }
-    Ok(())
+    Ok(known)
 }
 
-// Each member was looked up once, and where a group has its valency they are counted and nothing more.
+// Where a group has its valency its members are counted and nothing more.
 fn group_orders(
     alloc: Global,
     valency: Valency,
     view: &View,
     group: &Group,
-    known: &[Peer],
     book: &PeerBook,
     picker: &Picker,
 ) -> Result<Vec<Order>, OutOfMemory>
     requires members { IsDistinct same_address group.now.members }
     requires peers { IsDistinct same_address (addresses_of book.now) }
-    requires known { known.now ≡ lookups book.now group.now.members }
     ensures { IfOk result (λ orders. orders.items
         ≡ valency_orders valency view.now book.now group.now) }
 {
-    let number = number_of(valency, group, &view.links, known);
+    let number = number_of(valency, group, &view.links, book);
     if number == 0 {
         return Ok(Vec::new(alloc));
     }
+    let known = look_up(alloc, group.members.as_slice(), book)?;
     let task = task_of(valency);
     let search = Search {
         big: false,
@@ -98,7 +97,7 @@ fn group_orders(
         whom: Whom::Everybody,
         view,
     };
-    let cands = among(alloc, &search, known)?;
+    let cands = among(alloc, &search, &known)?;
     ordinary_orders(alloc, task, number, view.word, &cands, picker)
 }
 
@@ -124,21 +123,34 @@ fn task_of(valency: Valency) -> Task
 }
 
 // By how many members the valency is missed.
-fn number_of(valency: Valency, group: &Group, links: &LinkList, known: &[Peer]) -> u64
-    ensures { result ≡ valency_number valency group.now links.now known.now }
+fn number_of(valency: Valency, group: &Group, links: &LinkList, book: &PeerBook) -> u64
+    ensures { result ≡ valency_number valency group.now links.now (lookups book.now group.now.members) }
 {
+    let members = group.members.as_slice();
     match valency {
         Valency::WarmUp => {
-            let warm = count_with(Status::EstablishedOrPending, known, links);
+            let warm = count_among(Status::EstablishedOrPending, members, links, book);
             group.warm.saturating_sub(warm)
         }
         Valency::HotUp => {
-            let hot = count_with(Status::HotOrOwesOn2, known, links);
+            let hot = count_among(Status::HotOrOwesOn2, members, links, book);
             group.hot.saturating_sub(hot)
         }
         Valency::HotDown => {
-            let hot = count_with(Status::Hot, known, links);
+            let hot = count_among(Status::Hot, members, links, book);
             hot.saturating_sub(group.hot)
         }
     }
+}
+
+// How many ordinary peers with some addresses have a status. They are counted where they stand in the book.
+fn count_among(status: Status, addrs: &[Addr], links: &LinkList, book: &PeerBook) -> u64
+    ensures { result ≡ count_with status false links.now (lookups book.now addrs.now) }
+{
+    let mut nearby = Nearby::new(book);
+    let mut count = 0;
+    for addr in addrs {
+        count += count_with(status, nearby.at(*addr), links);
+    }
+    count
 }

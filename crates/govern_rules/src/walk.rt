@@ -1,7 +1,7 @@
-ghost use Rattle.std.specs.Prelude.{◌≡◌, ◌<◌, ◌-◌, [], None, length, slice_get, IfSome};
+ghost use Rattle.std.specs.Prelude.{◌≡◌, ◌<◌, ◌-◌, [], true, None, length, slice_get, IfSome};
 ghost use Rattle.std.specs.List.{prefix_len};
 ghost use Rattle.govern_rules.specs.SortedLinks.{IsInOrder, is_below, links_of};
-ghost use Rattle.govern_rules.specs.Walks.{IsRunFrom, is_over, is_below_at, has_address_at};
+ghost use Rattle.govern_rules.specs.Walks.{IsRunFrom, is_over, is_before_at, is_below_at, has_address_at};
 
 use crate::Link;
 use crate::links::start_of;
@@ -54,12 +54,23 @@ impl<'a> Walk<'a> {
         ensures there { IfSome result (λ place. place ≡ prefix_len (is_below addr) self.old) }
         ensures none { result ≡ None → links_of addr self.old ≡ [] }
     {
+        if self.has_passed(addr) {
+            return None;
+        }
         let place = self.place_of(addr);
         let run = self.run_from(place);
         self.last = Some(addr);
         self.place = place;
         self.run = run;
         starts_at(run, addr).then_some(place)
+    }
+
+    // Whether an address is below that of the first link at hand, and not below the one that was asked for last: so it has
+    // no link, and the walk stays where it is.
+    fn has_passed(&self, addr: Addr) -> bool
+        ensures { result ≡ true → links_of addr self.now ≡ [] }
+    {
+        is_before_first(addr, self.run) && !is_over(self.last, addr)
     }
 
     // How many links have an address below one.
@@ -87,6 +98,16 @@ impl<'a> Walk<'a> {
             }
             _ => self.links.run_from(place),
         }
+    }
+}
+
+// Whether an address is below that of the first of some links, or there is none.
+fn is_before_first(addr: Addr, run: &[Link]) -> bool
+    ensures { result ≡ is_before_at addr (slice_get run.now 0) }
+{
+    match run.first() {
+        Some(link) => addr.is_before(&link.addr),
+        None => true,
     }
 }
 

@@ -1,4 +1,5 @@
-ghost use Rattle.std.specs.Prelude.{◌≡◌};
+ghost use Rattle.std.specs.Prelude.{◌≡◌, is_some};
+ghost use Rattle.root_groups.specs.Cleaned.{group_of};
 
 use net_base::Addr;
 use root_groups::{Groups, Roots};
@@ -20,9 +21,22 @@ impl Whom<'_> {
     {
         match self {
             Whom::Everybody => true,
-            Whom::NotLocal(groups) => groups.group_of(addr).is_none(),
-            Whom::Droppable(groups, roots) => groups.group_of(addr).is_none()
-                && !roots.is_public(addr),
+            Whom::NotLocal(groups) => !is_local(groups, addr),
+            Whom::Droppable(groups, roots) => !is_local(groups, addr) && !roots.is_public(addr),
         }
     }
+}
+
+// Whether a group holds an address. Where there are no groups, none is looked for.
+fn is_local(groups: &Groups, addr: Addr) -> bool
+    ensures { result ≡ is_some (group_of addr groups.now) }
+{
+    !groups.list().as_slice().is_empty() && has_group(groups, addr)
+}
+
+#[inline(never)]
+fn has_group(groups: &Groups, addr: Addr) -> bool
+    ensures { result ≡ is_some (group_of addr groups.now) }
+{
+    groups.group_of(addr).is_some()
 }

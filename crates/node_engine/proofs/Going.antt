@@ -2,10 +2,10 @@
 use Rattle.std.proofs.Common.{◌≡◌, List, [], ◌∷◌, ◌++◌, append_assoc, append-nil, refl, sym, ap, subst, ◌∙◌}
 use Rattle.net_base.specs.declared.action.Action.{Action}
 use Rattle.govern_rules.specs.declared.order.Order.{Order}
-use Rattle.machine.specs.Effect.{Effect, for_each}
-use Rattle.machine.specs.Govern.{carries_out, rules}
+use Rattle.machine.specs.Effect.{Effect, for_each, then_do}
+use Rattle.machine.specs.Govern.{carries_out}
 use Rattle.machine.specs.Machine.{Machine}
-use Rattle.laws.specs.OrderNeeds.{MayCarry, MayAll, MayFollow}
+use Rattle.laws.specs.OrderNeeds.{MayCarry, MayAll}
 use Rattle.node_engine.specs.State.{Does}
 
 -- The rest leads where all of them lead.
@@ -27,6 +27,15 @@ going-more {X} act all rest more x first before m after n told next h does =
       actions_left = k.actions_left ∙ rw (does.actions_are, does.machine_is, append_assoc) refl;
     }
 
+-- several at once
+pub going-on : {X : Type 0} (act : X → Machine → Effect) (all rest more : List X) (effect : Effect) (first : Machine) (before : List Action)
+    (m : Machine) (after : List Action) (n : Machine) (told : List Action) → for_each act rest m ≡ then_do effect (for_each act more) →
+    IsGoing act all rest first before m after → Does effect after n told → IsGoing act all more first before n told
+going-on act all rest more effect first before m after n told same k does = record {
+  machine_left = k.machine_left ∙ (ap (λ e. e.machine) same ∙ ap (λ o. (for_each act more o).machine) (sym does.machine_is));
+  actions_left = k.actions_left ∙ (ap (λ e. after ++ e.actions) same ∙ rw (does.actions_are, does.machine_is, append_assoc) refl);
+}
+
 pub going-all : {X : Type 0} (act : X → Machine → Effect) (all rest : List X) (first : Machine) (before : List Action) (m : Machine) (after : List Action) →
     rest ≡ [] → IsGoing act all rest first before m after → Does (for_each act all first) before m after
 unfolding for_each
@@ -47,16 +56,3 @@ unfolding MayAll
 may-more rest more order m n after told next may does =
     let h : MayAll (order ∷ more) m = subst (λ os. MayAll os m) next may in
     subst (MayAll more) (sym does.machine_is) h.1
-
-pub follow-first : (rest more : List (Machine → List Order)) (orders : Machine → List Order) (m : Machine) → rest ≡ orders ∷ more → MayFollow rest m →
-    MayAll (orders m) m
-unfolding MayFollow
-follow-first rest more orders m next may =
-    let h : MayFollow (orders ∷ more) m = subst (λ os. MayFollow os m) next may in h.0
-
-pub follow-more : (rest more : List (Machine → List Order)) (orders : Machine → List Order) (m n : Machine) (after told : List Action) → rest ≡ orders ∷ more →
-    MayFollow rest m → Does (rules orders m) after n told → MayFollow more n
-unfolding MayFollow
-follow-more rest more orders m n after told next may does =
-    let h : MayFollow (orders ∷ more) m = subst (λ os. MayFollow os m) next may in
-    subst (MayFollow more) (sym does.machine_is) h.1

@@ -22,7 +22,7 @@ returns-in-Asking-clause-value c =
 pub returns-in-Asking-clause-apart : goal.returns-in-Asking-clause-apart
 returns-in-Asking-clause-apart c =
     IfOk-weaker c.established.result _ _
-    (λ cands moved. filter_apart (suits c.args.search.now) c.args.book.now cands.items c.is_empty.ensures.ordered moved)
+    (λ cands moved. filter_apart (suits c.args.search.now) c.args.book.now cands c.is_empty.ensures.ordered moved)
     (returns-in-Asking-clause-value c)
 
 pub returns-in-Forgetting-clause-apart : goal.returns-in-Forgetting-clause-apart
@@ -30,8 +30,8 @@ returns-in-Forgetting-clause-apart c =
     let book = c.args.book.now in
     let test = suits c.args.search.now in
     IfOk-weaker c.known.result _ _
-    (λ cands e. filter_apart test book cands.items c.is_empty.ensures.ordered
-    (permuted (filter test book) cands.items e))
+    (λ cands e. filter_apart test book cands c.is_empty.ensures.ordered
+    (permuted (filter test book) cands e))
     c.known.ensures
 
 pub returns-in-Releasing-clause-value : goal.returns-in-Releasing-clause-value
@@ -43,12 +43,12 @@ returns-in-Releasing-clause-value c =
     elim c.in-Releasing.is [ inl e ↦ λ p. suits-released search p e | inr e ↦ λ p. suits-activated search p e ] in
     let rows = among-row Warm test book only (distinct_book book c.is_empty.ensures.ordered) in
     IfOk-weaker c.listed.result _ _
-    (λ cands e. permuted (filter test book) cands.items (e ∙ rows)) c.listed.ensures
+    (λ cands e. permuted (filter test book) cands (e ∙ rows)) c.listed.ensures
 
 pub returns-in-Releasing-clause-apart : goal.returns-in-Releasing-clause-apart
 returns-in-Releasing-clause-apart c =
     IfOk-weaker c.listed.result _ _
-    (λ cands moved. filter_apart (suits c.args.search.now) c.args.book.now cands.items c.is_empty.ensures.ordered moved)
+    (λ cands moved. filter_apart (suits c.args.search.now) c.args.book.now cands c.is_empty.ensures.ordered moved)
     (returns-in-Releasing-clause-value c)
 
 pub returns-in-Deactivating-clause-value : goal.returns-in-Deactivating-clause-value
@@ -58,13 +58,13 @@ returns-in-Deactivating-clause-value c =
     let test = suits search in
     let rows = among-row Hot test book (λ p. suits-deactivated search p c.in-Deactivating.is) (distinct_book book c.is_empty.ensures.ordered) in
     IfOk-weaker c.listed-in-Deactivating.result _ _
-    (λ cands e. permuted (filter test book) cands.items (e ∙ rows))
+    (λ cands e. permuted (filter test book) cands (e ∙ rows))
     c.listed-in-Deactivating.ensures
 
 pub returns-in-Deactivating-clause-apart : goal.returns-in-Deactivating-clause-apart
 returns-in-Deactivating-clause-apart c =
     IfOk-weaker c.listed-in-Deactivating.result _ _
-    (λ cands moved. filter_apart (suits c.args.search.now) c.args.book.now cands.items c.is_empty.ensures.ordered moved)
+    (λ cands moved. filter_apart (suits c.args.search.now) c.args.book.now cands c.is_empty.ensures.ordered moved)
     (returns-in-Deactivating-clause-value c)
 
 pub returns-then-is_empty-clause-value : goal.returns-then-is_empty-clause-value
@@ -72,7 +72,7 @@ returns-then-is_empty-clause-value c =
     let book = c.args.book.now in
     let test = suits c.args.search.now in
     let none : length book ≡ 0 = search rules in
-    permuted (filter test book) _ (c.new.ensures.items ∙ sym (ap (filter test) (nothing book none)))
+    permuted (filter test book) _ (c.new.ensures ∙ sym (ap (filter test) (nothing book none)))
 
 pub returns-then-is_empty-clause-apart : goal.returns-then-is_empty-clause-apart
 returns-then-is_empty-clause-apart c =

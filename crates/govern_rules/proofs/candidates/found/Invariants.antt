@@ -5,7 +5,7 @@ use Rattle.govern_rules.proofs.candidates.found.Given as goal
 
 abbrev pub invariant-loop-addr : goal.invariant-loop-addr
 invariant-loop-addr l = record {
-  cands : l.cands.items ≡ filter (suits l.search) (lookups l.book (take l.addr-index l.addrs));
+  cands : l.cands ≡ filter (suits l.search) (lookups l.book (take l.addr-index l.addrs));
   walk : l.walk ≡ l.search.view.now.links;
   nearby : l.nearby ≡ l.book;
 }

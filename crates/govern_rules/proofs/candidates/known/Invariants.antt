@@ -4,7 +4,7 @@ use Rattle.govern_rules.specs.Search.{suits}
 use Rattle.govern_rules.proofs.candidates.known.Given as goal
 
 abbrev pub invariant-loop-place : goal.invariant-loop-place
-invariant-loop-place l = (l.cands.items ≡ filter (suits l.search) (take l.place l.book)) × (l.walk ≡ l.search.view.now.links)
+invariant-loop-place l = (l.cands ≡ filter (suits l.search) (take l.place l.book)) × (l.walk ≡ l.search.view.now.links)
 
 abbrev pub decreases-loop-place : goal.decreases-loop-place
 decreases-loop-place l = length l.book - l.place

@@ -4,4 +4,4 @@ use Rattle.govern_rules.specs.Search.{suits}
 use Rattle.govern_rules.proofs.candidates.take_in.Given as goal
 
 abbrev pub invariant-loop-peer : goal.invariant-loop-peer
-invariant-loop-peer l = (l.cands.items ≡ l.fn.cands.items ++ filter (suits l.search) (take l.peer-index l.peers)) × (l.walk ≡ l.fn.walk)
+invariant-loop-peer l = (l.cands ≡ l.fn.cands ++ filter (suits l.search) (take l.peer-index l.peers)) × (l.walk ≡ l.fn.walk)

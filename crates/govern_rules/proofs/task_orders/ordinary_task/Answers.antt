@@ -1,33 +1,33 @@
-use Rattle.std.proofs.Common.{◌≡◌, false, IfOk, map, sym, ap, subst, ◌∙◌}
-use Rattle.std.specs.List.{IsDistinct}
-use Rattle.net_base.specs.Address.{same_address}
-use Rattle.peer_book.specs.Book.{addresses_of}
-use Rattle.govern_rules.specs.Orders.{picks_of}
+use Rattle.std.proofs.Common.{◌≡◌, false, IfOk, sym, subst, ◌∙◌}
 use Rattle.govern_rules.specs.Tasks.{order_of, number_of, is_candidate}
 use Rattle.govern_rules.specs.Whom.{is_meant}
 use Rattle.govern_rules.specs.declared.search.Search.{Search}
+use Rattle.govern_rules.proofs.Nobody.{nobody-ordered}
 use Rattle.govern_rules.proofs.Picking.{no-orders}
 use Rattle.govern_rules.proofs.Tasks.{orders-picked}
 use Rattle.govern_rules.proofs.task_orders.ordinary_task.Goals as goal
+
+pub returns-then-has_nobody : goal.returns-then-has_nobody
+returns-then-has_nobody g c =
+    let view = c.args.view.now in
+    c.new.ensures.items
+    ∙ sym (nobody-ordered c.args.task false (is_meant c.args.whom.now) view c.args.book.now
+    (c.has_nobody.ensures c.if-has_nobody.true view.moment view.links))
 
 pub returns-then-number-eq0 : goal.returns-then-number-eq0
 returns-then-number-eq0 g c =
     let view = c.args.view.now in
     let book = c.args.book.now in
     let task = c.args.task in
-    c.new.ensures.items
+    c.new-then-number-eq0.ensures.items
     ∙ sym (no-orders false view.word (order_of task) (number_of task false view book)
     (is_candidate task (is_meant c.args.whom.now) view.moment view.links) book
     (sym c.number_of-number.ensures ∙ c.if-number-eq0.true))
 
-pub ordinary_orders-requires : goal.ordinary_orders-requires
-ordinary_orders-requires g c = subst (λ l. IsDistinct same_address (addresses_of l)) (sym c.deref.ensures.value) c.in_ok-cands.ensures.apart
-
 pub returns : goal.returns
 returns g c =
     let search : Search = record { big = false; task = c.args.task; whom = c.args.whom.now; view = c.args.view } in
-    let cands = c.in_ok-cands.cands.items in
-    let picked = ap (λ l. map (order_of c.args.task) (picks_of false c.args.view.now.word c.number_of-number.result l)) c.deref.ensures.value in
+    let cands = c.in_ok-cands.cands in
     subst (λ l. IfOk c.ordinary_orders.result (λ orders. orders.items ≡ l))
-    (picked ∙ orders-picked search c.args.book.now cands c.number_of-number.result c.number_of-number.ensures c.in_ok-cands.ensures.value c.in_ok-cands.ensures.apart)
+    (orders-picked search c.args.book.now cands c.number_of-number.result c.number_of-number.ensures c.in_ok-cands.ensures.value c.in_ok-cands.ensures.apart)
     c.ordinary_orders.ensures

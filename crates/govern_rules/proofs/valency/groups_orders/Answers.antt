@@ -5,7 +5,6 @@ use Rattle.net_base.specs.Address.{same_address}
 use Rattle.net_base.specs.declared.event.Group.{Group}
 use Rattle.peer_book.specs.Book.{listed_at}
 use Rattle.govern_rules.specs.Members.{valency_temp}
-use Rattle.govern_rules.specs.Search.{lookups}
 use Rattle.govern_rules.proofs.Apart.{distinct_book, distinct_members, nothing}
 use Rattle.govern_rules.proofs.Members.{nobody-in-groups}
 use Rattle.govern_rules.proofs.valency.groups_orders.Goals as goal
@@ -35,5 +34,4 @@ group_orders-requires g c =
       members = subst (λ (x : Group). IsDistinct same_address x.members) (sym there)
           (distinct_members c.args.groups.now i group (omega (arith, ap length all)) c.list.ensures.distinct);
       peers = distinct_book c.args.book.now c.is_empty.ensures.ordered;
-      known = c.deref.ensures.value ∙ (c.in_ok-look_up.ensures ∙ ap (lookups c.args.book.now) c.as_slice.ensures);
     }

@@ -1,13 +1,13 @@
-ghost use Rattle.std.specs.Prelude.{OnOk, map};
+ghost use Rattle.std.specs.Prelude.{◌<◌, IfOk, OnOk, length, map};
 ghost use Rattle.laws.specs.OrderNeeds.{MayAll, MayFollow};
 ghost use Rattle.machine.specs.Effect.{for_each};
 ghost use Rattle.govern_rules.specs.SameViews.{SeeSame};
 ghost use Rattle.machine.specs.Govern.{rules as follows, view_of};
-ghost use Rattle.node_engine.specs.Rules.{orders_by};
+ghost use Rattle.node_engine.specs.Rules.{orders_by, AreFirst};
 ghost use Rattle.node_engine.specs.State.{Does};
 
 use crate::NodeState;
-use govern_rules::{BigRule, View};
+use govern_rules::{BigRule, OrderList, View};
 use net_base::{ActionList, OutOfMemory};
 use peers::Rule;
 use pick_policy::{Picker, RankedPicker};
@@ -46,26 +46,38 @@ impl NodeState {
         requires { MayFollow (map (orders_by word) rules.now) self.old }
         ensures { OnOk result (Does (for_each follows (map (orders_by word) rules.now) self.old) actions.old self.new actions.new) }
     {
-        for rule in rules {
-            self.follow(*rule, word, picker, ranked, actions)?;
+        let mut rest = rules;
+        while !rest.is_empty() {
+            let (orders, after) = self.first_orders(rest, word, picker, ranked)?;
+            self.carry_out_all(orders.as_slice(), actions)?;
+            rest = after;
         }
         Ok(())
     }
 
-    fn follow(
-        &mut self,
-        rule: Rule,
+    // The orders of the first rule that gives some, and the rules behind it. Nothing changes before, so all up to there see
+    // the same.
+    fn first_orders<'r>(
+        &self,
+        rules: &'r [Rule],
         word: u64,
         picker: &Picker,
         ranked: &RankedPicker,
-        actions: &mut ActionList,
-    ) -> Result<(), OutOfMemory>
-        requires { MayAll (orders_by word rule self.old) self.old }
-        ensures { OnOk result (Does (follows (orders_by word rule) self.old) actions.old self.new actions.new) }
+    ) -> Result<(OrderList, &'r [Rule]), OutOfMemory>
+        requires { MayFollow (map (orders_by word) rules.now) self.now }
+        ensures found { IfOk result (λ found. AreFirst (orders_by word) rules.now found.0 found.1.now self.now) }
+        ensures fewer { IfOk result (λ found. 0 < length rules.now → length found.1.now < length rules.now) }
     {
         let view = self.view(word);
-        let orders = self.peers.orders_by(rule, &view, picker, ranked)?;
-        self.carry_out_all(orders.as_slice(), actions)
+        let mut rest = rules;
+        while let Some((rule, after)) = rest.split_first() {
+            let orders = self.peers.orders_by(*rule, &view, picker, ranked)?;
+            if !orders.as_slice().is_empty() {
+                return Ok((orders, after));
+            }
+            rest = after;
+        }
+        Ok((OrderList::new(self.alloc), rest))
     }
 
     // What the rules see. The connections lend their links, so nothing is looked at.
