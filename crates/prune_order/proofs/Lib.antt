@@ -1,4 +1,2 @@
-pub mod Joins
-pub mod Raising
-pub mod Roots
+pub mod Leasts
 pub mod Rows

@@ -1,7 +1,6 @@
 -- The leaves after a change, and the rows that they are.
-use Rattle.std.proofs.Common.{◌≡◌, ℕ, suc, ◌+◌, ◌<◌, ◌≤◌, Bool, true, false, ◌||◌, cond, List, [], ◌∷◌, ◌++◌, filter, length, set, Option, Some, None, Result, Ok, Err, nat_lt, refl, sym, ap, subst, ◌∙◌, inl, inr, arith}
+use Rattle.std.proofs.Common.{◌≡◌, ℕ, ◌+◌, ◌<◌, ◌≤◌, Bool, true, false, ◌||◌, cond, List, [], ◌∷◌, ◌++◌, length, set, Option, Some, None, nat_lt, refl, sym, ap, subst, ◌∙◌, inl, inr, arith}
 use Rattle.std.specs.List.{AllByRecursion, cons_option, list_any, prefix_len}
-use Rattle.std.specs.Result.{OnOk, OnErr}
 use Rattle.std.proofs.lemmas.List.{length-map, length_push}
 use Rattle.std.proofs.lemmas.List.Elements.{filter_map-append}
 use Rattle.std.proofs.lemmas.Bool.{cases_Bool, or_parts, false≢true, true≢false}
@@ -11,25 +10,13 @@ use Rattle.timer_queue.specs.Order.{IsRising}
 use Rattle.timer_queue.specs.Timers.{same_cid, cid_below}
 use Rattle.timer_queue.proofs.Orders.{cid_order, same_cid-is}
 use Rattle.timer_queue.proofs.Rising.{set-place, place-inside, above_when_same, map-replaced, IsRising-map, IsRising-from_map, IsRising-filter, any-above}
-use Rattle.prune_order.specs.Kept.{AreRising, AreUpTo}
-use Rattle.prune_order.specs.Leaves.{is_there, ranked, nodes_of, row_by, row_of, rows_of, with_leaf, standing_by}
-use Rattle.prune_order.specs.Order.{candidate, candidates, stands, with_rank, without}
+use Rattle.prune_order.specs.Kept.{AreRising, AreUpTo, AreOfWords, IsOfWords}
+use Rattle.prune_order.specs.Leaves.{is_there, ranked, row_by, row_of, rows_of, with_leaf, standing_by, those_there}
+use Rattle.prune_order.specs.Order.{stands, with_rank, without}
 use Rattle.prune_order.specs.declared.leaf.Leaf.{Leaf}
 use Rattle.prune_order.specs.declared.leaf.Standing.{Standing}
 use Rattle.prune_order.specs.declared.leaf.Standing.TheVariants.{Gone, Kept, MayGo}
 use Rattle.prune_order.specs.declared.ranked.Ranked.{Ranked}
-
--- ---- those that have gone are no candidates
-
-cons_candidate : (s : Standing) (l : Leaf) → l.standing ≡ s → (rest : List Leaf) → candidates (rows_of rest) ≡ candidates (nodes_of rest) →
-    candidates (cons_option (row_by s l) (rows_of rest)) ≡ cons_option (candidate (ranked l)) (candidates (nodes_of rest))
-cons_candidate Gone l e rest same = rw e same
-cons_candidate Kept l e rest same = ap (cons_option (candidate (ranked l))) same
-cons_candidate (MayGo rank) l e rest same = ap (cons_option (candidate (ranked l))) same
-
-pub same_candidates : (leaves : List Leaf) → candidates (rows_of leaves) ≡ candidates (nodes_of leaves)
-same_candidates [] = refl
-same_candidates (l ∷ ls) = cons_candidate l.standing l refl ls (same_candidates ls)
 
 -- ---- a row of one that came
 
@@ -194,9 +181,6 @@ set-with_leaf new leaves place rise there e =
 
 -- ---- those that have gone are dropped
 
-abbrev pub those_there : List Leaf → List Leaf
-those_there leaves = filter (λ l. is_there l.standing) leaves
-
 pub rows-dropped : (leaves : List Leaf) → rows_of (those_there leaves) ≡ rows_of leaves
 rows-dropped [] = refl
 rows-dropped (l ∷ ls) = by l.standing refl (rows-dropped ls)
@@ -218,20 +202,28 @@ up_to-dropped (l ∷ ls) last h = by (is_there l.standing) (up_to-dropped ls las
     by true rest = (h.0, rest)
     by false rest = rest
 
-pub fewer : (leaves : List Leaf) → length (those_there leaves) ≤ length leaves
-fewer [] = omega arith
-fewer (l ∷ ls) = by (is_there l.standing) (fewer ls)
-  where
-    by : (b : Bool) → length (those_there ls) ≤ length ls → length (cond b (l ∷ those_there ls) (those_there ls)) ≤ suc (length ls)
-    by true rest = omega (arith, rest)
-    by false rest = omega (arith, rest)
-
-pub in_either : {A E : Type 0} (r : Result A E) (P Q R : Type 0) → OnOk r P → OnErr r Q → (P → R) → (Q → R) → R
-in_either (Ok x) P Q R ok err f g = f ok
-in_either (Err e) P Q R ok err f g = g err
-
 pub length-with_leaf : (new : Leaf) (leaves : List Leaf) → length (with_leaf new leaves) ≡ length leaves
 length-with_leaf new leaves = length-map leaves (λ l. cond (same_cid l.cid new.cid) new l)
 
 pub pushed : (leaves : List Leaf) (new : Leaf) → length (leaves ++ new ∷ []) ≡ length leaves + 1
 pushed leaves new = length_push leaves new
+
+-- ---- words
+
+pub words-with_leaf : (new : Leaf) (leaves : List Leaf) → IsOfWords new → AreOfWords leaves → AreOfWords (with_leaf new leaves)
+words-with_leaf new [] of_new words = tt
+words-with_leaf new (l ∷ ls) of_new words = elim (cases_Bool (same_cid l.cid new.cid)) [
+  | inl here ↦ rw here (of_new, words-with_leaf new ls of_new words.1)
+  | inr other ↦ rw other (words.0, words-with_leaf new ls of_new words.1)
+]
+
+pub words-push : (leaves : List Leaf) (new : Leaf) → IsOfWords new → AreOfWords leaves → AreOfWords (leaves ++ new ∷ [])
+words-push leaves new of_new words = all-push IsOfWords leaves new words of_new
+
+pub words-dropped : (leaves : List Leaf) → AreOfWords leaves → AreOfWords (those_there leaves)
+words-dropped [] words = tt
+words-dropped (l ∷ ls) words = by (is_there l.standing) (words-dropped ls words.1)
+  where
+    by : (b : Bool) → AreOfWords (those_there ls) → AreOfWords (cond b (l ∷ those_there ls) (those_there ls))
+    by true rest = (words.0, rest)
+    by false rest = rest

@@ -1,5 +1,5 @@
 -- The leaves: the connections that came, in order of id.
-use Rattle.std.specs.Prelude.{ℕ, Bool, true, false, List, map, Option, Some, None, if◌then◌else◌}
+use Rattle.std.specs.Prelude.{ℕ, Bool, true, false, List, filter, map, Option, Some, None, if◌then◌else◌}
 use Rattle.std.specs.List.{filter_map}
 use Rattle.prune_order.specs.declared.leaf.Leaf.{Leaf}
 use Rattle.prune_order.specs.declared.leaf.Standing.{Standing}
@@ -24,10 +24,6 @@ is_there (MayGo rank) = true
 abbrev pub ranked : Leaf → Ranked
 ranked leaf = record { cid = leaf.cid; rank = rank_in leaf.standing }
 
--- as the tree sees them
-abbrev pub nodes_of : List Leaf → List Ranked
-nodes_of leaves = map ranked leaves
-
 abbrev pub row_by : Standing → Leaf → Option Ranked
 row_by Gone leaf = None
 row_by Kept leaf = Some (ranked leaf)
@@ -43,3 +39,6 @@ rows_of leaves = filter_map row_of leaves
 -- in place of the one with its id
 abbrev pub with_leaf : Leaf → List Leaf → List Leaf
 with_leaf new leaves = map (λ l. if same_cid l.cid new.cid then new else l) leaves
+
+abbrev pub those_there : List Leaf → List Leaf
+those_there leaves = filter (λ l. is_there l.standing) leaves

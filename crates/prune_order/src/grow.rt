@@ -1,10 +1,13 @@
-ghost use Rattle.std.specs.Prelude.{◌≡◌, ◌+◌, ◌*◌, ◌<◌, ◌≤◌, length, filter, OnOk, OnErr};
+ghost use Rattle.std.specs.Prelude.{◌≡◌, filter, IfOk};
 ghost use Rattle.std.specs.Vec.{vec_capacity};
-ghost use Rattle.prune_order.specs.Leaves.{is_there};
+ghost use Rattle.least_tree.specs.Numbers.{with_room};
+ghost use Rattle.prune_order.specs.Keys.{keys_in};
+ghost use Rattle.prune_order.specs.Leaves.{is_there, those_there};
 
-use crate::leaf::{Leaf, is_there};
-use crate::ranked::{Ranked, nobody};
+use crate::leaf::{Leaf, is_there, key_in};
+use least_tree::LeastTree;
 use net_base::OutOfMemory;
+use std::alloc::{AllocError, Global};
 
 // Drops the leaves of those that have gone.
 pub fn drop_gone(leaves: &mut Vec<Leaf>)
@@ -14,22 +17,20 @@ pub fn drop_gone(leaves: &mut Vec<Leaf>)
     leaves.retain(|leaf| is_there(leaf));
 }
 
-// Makes room for as many leaves again as there are, so that each is moved a few times at most. The tree is to be built
-// anew afterwards. A refusal leaves it as it was.
-pub fn widen(leaves: &mut Vec<Leaf>, inner: &mut Vec<Ranked>) -> Result<(), OutOfMemory>
-    requires memory { length inner.old.items ≤ vec_capacity leaves.old }
-    ensures leaves { leaves.new.items ≡ leaves.old.items }
-    ensures room { OnOk result (length leaves.old.items < length inner.new.items) }
-    ensures memory { OnOk result (length inner.new.items ≤ vec_capacity leaves.new) }
-    ensures kept { OnErr result (inner.new.items ≡ inner.old.items) }
-    ensures no_less { vec_capacity leaves.old ≤ vec_capacity leaves.new }
+// The keys of those that have not gone, and room for as many again.
+pub fn tree_over(alloc: Global, leaves: &[Leaf]) -> Result<LeastTree, OutOfMemory>
+    ensures { IfOk result (λ tree. tree ≡ with_room (keys_in (those_there leaves.now))) }
 {
-    let count = leaves.as_slice().len();
-    let wanted = 2 * (count + 1);
-    if wanted <= inner.len() {
-        return Ok(());
-    }
-    leaves.try_reserve(wanted - count)?;
-    *inner = vec![in *leaves.allocator(); nobody(); wanted]?;
-    Ok(())
+    let keys = keys(alloc, leaves)?;
+    LeastTree::over(alloc, &keys)
+}
+
+fn keys(alloc: Global, leaves: &[Leaf]) -> Result<Vec<u128>, AllocError>
+    ensures { IfOk result (λ keys. keys.items ≡ keys_in (those_there leaves.now)) }
+{
+    leaves
+        .iter()
+        .filter(|leaf| is_there(leaf))
+        .map(|leaf| key_in(leaf))
+        .collect(alloc)
 }

@@ -1,11 +1,11 @@
-ghost use Rattle.std.specs.Prelude.{◌≡◌, ◌≤◌, length, slice_index_or};
+ghost use Rattle.std.specs.Prelude.{◌≡◌, ◌≤◌, length};
 ghost use Rattle.std.specs.List.{prefix_len};
-ghost use Rattle.prune_order.specs.Kept.{AreRising};
-ghost use Rattle.prune_order.specs.Leaves.{rank_in, standing_by, is_there, ranked, nodes_of};
-ghost use Rattle.prune_order.specs.Trees.{nobody};
+ghost use Rattle.prune_order.specs.Kept.{AreRising, IsOfWords};
+ghost use Rattle.prune_order.specs.Keys.{key_in, cid_in};
+ghost use Rattle.prune_order.specs.Leaves.{standing_by, is_there};
 ghost use Rattle.timer_queue.specs.Timers.{cid_below};
 
-use crate::ranked::{Ranked, nobody};
+use least_tree::{NONE, key, second};
 use net_base::Cid;
 
 // How a connection that came stands.
@@ -45,34 +45,26 @@ pub fn is_there(leaf: &Leaf) -> bool
     }
 }
 
-// As the tree sees it.
-fn ranked(leaf: &Leaf) -> Ranked
-    ensures { result ≡ ranked leaf.now }
+// Its rank and then its id, of which the greatest comes first, as one number.
+pub fn key_in(leaf: &Leaf) -> u128
+    ensures value { result ≡ key_in leaf.now }
+    ensures words { IsOfWords leaf.now }
 {
-    Ranked {
-        cid: leaf.cid,
-        rank: rank_in(leaf.standing),
+    let id = leaf.cid.0;
+    match leaf.standing {
+        Standing::Gone | Standing::Kept => NONE,
+        Standing::MayGo(rank) => key(u64::from(rank), u64::MAX - id),
     }
 }
 
-fn rank_in(standing: Standing) -> Option<u8>
-    ensures { result ≡ rank_in standing }
+// The id in a key, where it is one.
+pub fn cid_in(number: u128) -> Option<Cid>
+    ensures { result ≡ cid_in number }
 {
-    match standing {
-        Standing::Gone | Standing::Kept => None,
-        Standing::MayGo(rank) => Some(rank),
+    if number == NONE {
+        return None;
     }
-}
-
-// What the tree sees at a place.
-pub fn node_at(leaves: &[Leaf], place: usize) -> Ranked
-    ensures { result ≡ slice_index_or (nodes_of leaves.now) place nobody }
-{
-    if place < leaves.len() {
-        ranked(&leaves[place])
-    } else {
-        nobody()
-    }
+    Some(Cid(u64::MAX - second(number)))
 }
 
 // How many have a lower id.

@@ -5,7 +5,6 @@ mod grow;
 mod leaf;
 mod order;
 mod ranked;
-mod tree;
 
 pub use order::PruneOrder;
 pub use ranked::Ranked;

@@ -2,29 +2,27 @@ ghost use Rattle.std.specs.Prelude.{◌≡◌, ◌-◌, ◌∷◌, ◌++◌, ◌
 ghost use Rattle.std.specs.List.{list_any};
 ghost use Rattle.std.specs.Vec.{vec_capacity};
 ghost use Rattle.accept_gate.specs.Prune.{choice_of};
-ghost use Rattle.prune_order.specs.Kept.{AreRising};
-ghost use Rattle.prune_order.specs.Leaves.{nodes_of, with_leaf};
-ghost use Rattle.prune_order.specs.Trees.{IsTree};
+ghost use Rattle.prune_order.specs.Kept.{AreRising, AreOfWords, IsOver};
+ghost use Rattle.prune_order.specs.Leaves.{with_leaf};
 ghost use Rattle.timer_queue.specs.Timers.{same_cid};
 ghost use Rattle.prune_order.specs.Order.{candidates, stands, AreBelow, with_rank, without};
 
-use crate::grow::{drop_gone, widen};
-use crate::leaf::{Leaf, Standing, place_of, standing_by};
-use crate::ranked::Ranked;
-use crate::tree::{build, node, raise};
+use crate::grow::{drop_gone, tree_over};
+use crate::leaf::{Leaf, Standing, cid_in, key_in, place_of, standing_by};
+use least_tree::LeastTree;
 use net_base::{Cid, OutOfMemory};
 use std::alloc::Global;
 use std::marker::Model;
 
 /// The connections that stand, each with its rank where it may go. Contracts see them in order of id.
 ///
-/// They are the leaves of a tree in which each inner node has the one of its two children that goes first. So a change
-/// is told as far up as it matters, and whoever goes first stands at the root.
+/// Beside them stands a tree that has of each its rank and its id, as one number. So a change is told as far up as it matters,
+/// and the least number names whoever goes first.
 #[derive(Drop)]
 pub struct PruneOrder {
     // in order of id, those that have gone among them
     leaves: Vec<Leaf>,
-    inner: Vec<Ranked>,
+    keys: LeastTree,
     last: Cid,
 }
 
@@ -37,9 +35,9 @@ impl Model for PruneOrder {
 
     ghost Value = { Order };
 
-    ghost view = { λ o. record { rows = rows_of o.leaves.items; room = length o.inner.items - length o.leaves.items; last = o.last } };
+    ghost view = { λ o. record { rows = rows_of o.leaves.items; room = length o.keys - length o.leaves.items; last = o.last } };
 
-    ghost invariant = { λ o. IsKept o.leaves.items o.inner.items o.last (vec_capacity o.leaves) };
+    ghost invariant = { λ o. IsKept o.leaves.items o.keys o.last (vec_capacity o.leaves) };
 }
 
 impl PruneOrder {
@@ -49,7 +47,7 @@ impl PruneOrder {
     {
         PruneOrder {
             leaves: Vec::new(alloc),
-            inner: Vec::new(alloc),
+            keys: LeastTree::new(alloc),
             last: Cid(0),
         }
     }
@@ -60,13 +58,15 @@ impl PruneOrder {
         ensures last { self.new.last ≡ self.old.last }
         ensures room { OnOk result (0 < self.new.room) }
     {
-        if self.leaves.len() < self.inner.len() {
+        if self.leaves.len() < self.keys.len() {
             return Ok(());
         }
+        let keys = tree_over(*self.leaves.allocator(), &self.leaves)?;
+        let more = keys.len().saturating_sub(self.leaves.len());
+        self.leaves.try_reserve(more)?;
         drop_gone(&mut self.leaves);
-        let widened = widen(&mut self.leaves, &mut self.inner);
-        build(&mut self.inner, &self.leaves);
-        widened
+        self.keys = keys;
+        Ok(())
     }
 
     /// A connection comes, which has a rank where it may go. Its id is above that of each that came before.
@@ -84,10 +84,10 @@ impl PruneOrder {
             cid,
             standing: standing_by(rank),
         };
+        self.keys.put(place, key_in(&leaf));
         // there is room
         let _ = self.leaves.push(leaf);
         self.last = cid;
-        raise(&mut self.inner, &self.leaves, place);
     }
 
     /// A connection has another rank, or may not go any more.
@@ -95,7 +95,7 @@ impl PruneOrder {
         requires { stands cid self.old.rows ≡ true }
         ensures { self.new ≡ record self.old { rows = with_rank cid rank self.old.rows } }
     {
-        put(&mut self.leaves, &mut self.inner, cid, standing_by(rank));
+        put(&mut self.leaves, &mut self.keys, cid, standing_by(rank));
     }
 
     /// A connection goes.
@@ -103,33 +103,31 @@ impl PruneOrder {
         requires { stands cid self.old.rows ≡ true }
         ensures { self.new ≡ record self.old { rows = without cid self.old.rows } }
     {
-        put(&mut self.leaves, &mut self.inner, cid, Standing::Gone);
+        put(&mut self.leaves, &mut self.keys, cid, Standing::Gone);
     }
 
     /// Which one goes first. None where none may go.
     pub fn choice(&self) -> Option<Cid>
         ensures { result ≡ choice_of (candidates self.now.rows) }
     {
-        let first = node(&self.inner, &self.leaves, 1);
-        match first.rank {
-            Some(_) => Some(first.cid),
-            None => None,
-        }
+        cid_in(self.keys.least())
     }
 }
 
 // A connection that came stands otherwise.
-fn put(leaves: &mut Vec<Leaf>, inner: &mut Vec<Ranked>, cid: Cid, standing: Standing)
+fn put(leaves: &mut Vec<Leaf>, keys: &mut LeastTree, cid: Cid, standing: Standing)
     requires rise { AreRising leaves.old.items }
-    requires fit { length leaves.old.items ≤ length inner.old.items }
-    requires tree { IsTree inner.old.items (nodes_of leaves.old.items) }
+    requires fit { length leaves.old.items ≤ length keys.old }
+    requires keys { IsOver leaves.old.items keys.old }
     requires there { list_any (λ l. same_cid l.cid cid) leaves.old.items ≡ true }
     ensures leaves { leaves.new.items ≡ with_leaf (record { cid = cid; standing = standing }) leaves.old.items }
     ensures memory { vec_capacity leaves.new ≡ vec_capacity leaves.old }
-    ensures length { length inner.new.items ≡ length inner.old.items }
-    ensures tree { IsTree inner.new.items (nodes_of leaves.new.items) }
+    ensures length { length keys.new ≡ length keys.old }
+    ensures keys { IsOver leaves.new.items keys.new }
+    ensures words { AreOfWords leaves.old.items → AreOfWords leaves.new.items }
 {
     let place = place_of(leaves, cid);
-    leaves[place] = Leaf { cid, standing };
-    raise(inner, leaves, place);
+    let leaf = Leaf { cid, standing };
+    keys.put(place, key_in(&leaf));
+    leaves[place] = leaf;
 }

@@ -8,7 +8,6 @@ pub mod Lines
 pub mod Orderly
 pub mod Orders
 pub mod Outcomes
-pub mod Over
 pub mod PutTimers
 pub mod Puts
 pub mod Rising

@@ -1,12 +1,13 @@
 use Rattle.std.proofs.Common.{◌≡◌, ℕ, ◌≤◌, cond, List, length, refl, subst, sym, ap, arith, ◌∙◌}
 use Rattle.std.specs.List.{insert}
+use Rattle.timer_queue.specs.Keys.{key_in}
 use Rattle.timer_queue.specs.Kept.{AreRising, AreIdle, AreOfWords, IsOver, all_timers}
 use Rattle.timer_queue.specs.Queue.{with_id}
 use Rattle.timer_queue.specs.Rows.{empty_row, with_new_row, place_at}
 use Rattle.timer_queue.specs.declared.rows.Row.{Row}
 use Rattle.timer_queue.proofs.Agreement.{Agree-admitted}
 use Rattle.timer_queue.proofs.Enrolled.{ids_of, ids-new, idle-with_new_row}
-use Rattle.timer_queue.proofs.Over.{over-insert, over-behind, length-put_among}
+use Rattle.least_tree.proofs.Over.{over-insert, over-behind, length-put_among}
 use Rattle.timer_queue.proofs.Words.{words-with_new_row}
 use Rattle.least_tree.specs.Numbers.{none}
 use Rattle.timer_queue.proofs.RowEdits.{AreRising-with_new_row, insert-place_at, length-with_new_row}
@@ -67,7 +68,7 @@ returns-then-not-is_last-clause-kept c =
       fit = omega (arith, longer d, ap length c.insert-then-not-is_last.ensures, long);
       memory = omega (arith, c.insert.ensures.capacity, ap length c.insert-then-not-is_last.ensures, long, c.requires.kept.memory);
       keys = subst (λ rs. IsOver rs c.insert-then-not-is_last.new.self) (sym (put d))
-          (over-insert rows old place (empty_row c.args.cid) c.insert-then-not-is_last.new.self (omega (arith, c.place_of-place.ensures.bound, ap length c.deref.ensures.value)) c.requires.room c.requires.kept.keys c.insert-then-not-is_last.ensures);
+          (over-insert key_in rows old place (empty_row c.args.cid) c.insert-then-not-is_last.new.self (omega (arith, c.place_of-place.ensures.bound, ap length c.deref.ensures.value)) c.requires.room c.requires.kept.keys c.insert-then-not-is_last.ensures);
     }
 
 pub returns-then-not-is_last-clause-queue : goal.returns-then-not-is_last-clause-queue
@@ -86,7 +87,7 @@ returns-else-not-is_last-clause-kept c =
       fit = longer d;
       memory = omega (arith, c.insert.ensures.capacity, c.requires.kept.memory);
       keys = subst (λ rs. IsOver rs keys) (sym (put d))
-          (over-behind (before d) keys c.place_of-place.result c.args.cid (omega (arith, c.if-not-is_last.false, c.len.ensures, c.args.self.now.rows.ok)) c.requires.room c.requires.kept.keys);
+          (over-behind key_in (before d) keys c.place_of-place.result (empty_row c.args.cid) refl (omega (arith, c.if-not-is_last.false, c.len.ensures, c.args.self.now.rows.ok)) c.requires.room c.requires.kept.keys);
     }
 
 pub returns-else-not-is_last-clause-queue : goal.returns-else-not-is_last-clause-queue

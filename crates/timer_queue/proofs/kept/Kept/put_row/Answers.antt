@@ -5,7 +5,7 @@ use Rattle.timer_queue.specs.Kept.{AreRising, AreIdle, AreOfWords}
 use Rattle.timer_queue.specs.Rows.{with_row}
 use Rattle.timer_queue.specs.declared.rows.Row.{Row}
 use Rattle.timer_queue.proofs.Enrolled.{idle-with_row}
-use Rattle.timer_queue.proofs.Over.{over-set}
+use Rattle.least_tree.proofs.Over.{over-set}
 use Rattle.timer_queue.proofs.RowEdits.{inside_rows, set-place_at, AreRising-with_row}
 use Rattle.timer_queue.proofs.Words.{words-with_row}
 use Rattle.timer_queue.proofs.kept.Kept.put_row.Goals as goal
@@ -37,6 +37,6 @@ returns-clause-kept c =
       words = subst AreOfWords (sym is) (words-with_row row rows c.key.ensures.words kept.words);
       fit = omega (arith, length-set rows c.args.place row, long, kept.fit);
       memory = omega (arith, long, kept.memory);
-      keys = over-set rows c.args.self.now.keys c.put.new.self c.args.place row (inside_rows row.cid rows c.args.place kept.rise c.requires.there c.requires.place)
+      keys = over-set key_in rows c.args.self.now.keys c.put.new.self c.args.place row (inside_rows row.cid rows c.args.place kept.rise c.requires.there c.requires.place)
           kept.keys key_is;
     }
