@@ -1,4 +1,4 @@
-ghost use Rattle.std.specs.Prelude.{◌≡◌, ◌<◌, ◌≤◌, ℕ, List, [], ◌++◌, length, IfSome, IfOk, OnErr};
+ghost use Rattle.std.specs.Prelude.{◌≡◌, ◌<◌, ◌≤◌, ◌+◌, ℕ, List, [], ◌∷◌, ◌++◌, length, drop, IfSome, IfOk, OnErr};
 ghost use Rattle.std.specs.List.{position_or_len};
 ghost use Rattle.io_edge.specs.Lines.{is_line_feed, FitsLine, IsPastLimit};
 ghost use Rattle.io_edge.specs.Reading.{TakesLine, TakesKept, ReadsLine, AnswersInput, HasReadCause};
@@ -47,6 +47,25 @@ impl LineReader {
             line: Vec::new(alloc),
             window,
         })
+    }
+
+    /// The next line, lent, where all of it came in one reading and is kept already.
+    pub fn whole_line(&self) -> Option<&[u8]>
+        ensures { IfSome result (λ line. FitsLine line.now × (self.now ≡ line.now ++ 10 ∷ drop (length line.now + 1) self.now)) }
+    {
+        if self.line.is_empty() {
+            first_line(self.window.bytes())
+        } else {
+            None
+        }
+    }
+
+    /// Gives up the first bytes that are kept.
+    pub fn skip(&mut self, count: usize)
+        requires { count ≤ length self.old }
+        ensures { self.new ≡ drop count self.old }
+    {
+        give_up(&mut self.line, &mut self.window, count);
     }
 
     /// Puts the next line into a buffer, in place of what it held, where all of the line is kept already. False is where a
@@ -152,6 +171,48 @@ fn take_kept(
     held.clear();
     window.consume(count + 1);
     Ok(true)
+}
+
+// The first line of some bytes, where it ends there and is not too long.
+fn first_line(bytes: &[u8]) -> Option<&[u8]>
+    ensures { IfSome result (λ line. FitsLine line.now × (bytes.now ≡ line.now ++ 10 ∷ drop (length line.now + 1) bytes.now)) }
+{
+    let count = line_length(bytes);
+    if count == bytes.len() || count > LINE_LIMIT {
+        return None;
+    }
+    Some(&bytes[..count])
+}
+
+// Gives up the first of the bytes that are held and those ahead.
+fn give_up(held: &mut Vec<u8>, window: &mut Window, count: usize)
+    requires front { FitsLine held.old.items }
+    requires count { count ≤ length (held.old.items ++ window.old) }
+    ensures rest { held.new.items ++ window.new ≡ drop count (held.old.items ++ window.old) }
+    ensures front { FitsLine held.new.items }
+    ensures fits { length window.new ≤ length window.old }
+{
+    if held.is_empty() {
+        window.consume(count);
+    } else {
+        give_up_held(held, window, count);
+    }
+}
+
+// The same where some are held.
+#[cold]
+#[inline(never)]
+fn give_up_held(held: &mut Vec<u8>, window: &mut Window, count: usize)
+    requires front { FitsLine held.old.items }
+    requires count { count ≤ length (held.old.items ++ window.old) }
+    ensures rest { held.new.items ++ window.new ≡ drop count (held.old.items ++ window.old) }
+    ensures front { FitsLine held.new.items }
+    ensures fits { length window.new ≤ length window.old }
+{
+    let first = count.min(held.len());
+    held.rotate_left(first);
+    held.truncate(held.len() - first);
+    window.consume(count - first);
 }
 
 // How many bytes stand before the first line feed, or before the end where there is none.

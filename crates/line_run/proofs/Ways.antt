@@ -15,7 +15,7 @@ use Rattle.io_edge.proofs.ToldLemmas.{Gives-nothing, Gives-append, Takes-nothing
 use Rattle.net_base.specs.declared.refusal.RefusalKind.TheVariants.{NoEnd}
 use Rattle.line_run.specs.Meaning.{Meaning, goes_on}
 use Rattle.line_run.specs.Judgement.{Verdict, ended, differed, refused, too_long, most_lines, Judgement, silently, behind, judged_by, judged, output_of, Lead}
-use Rattle.line_run.specs.Runs.{outcome_of, AreDecisive, IsOutcome, Runs, HasReadCount, HasWriteCount}
+use Rattle.line_run.specs.Runs.{outcome_of, AreDecisive, IsOutcome, Runs, HasWriteCount}
 use Rattle.line_run.specs.LineRead.{line_told, IsLineRead}
 use Rattle.line_run.specs.UnderWay.{HasSaid, IsUnderWay, IsEnding, IsLineNext, IsTurn, IsInterpretedAt}
 use Rattle.line_run.specs.declared.outcome.LineOutcome.{LineOutcome}
@@ -299,10 +299,7 @@ line_there means start number state line text kept pending l0 l1 t0 t1 same ther
 
 -- ---- counts of faults
 
-pub reads_same : (before now : ℕ) (outcome : LineOutcome) → now ≡ before → HasReadCount before before outcome → HasReadCount before now outcome
-reads_same before now outcome same count = subst (λ (n : ℕ). HasReadCount before n outcome) (sym same) count
-
-pub writes_same : (before now : ℕ) (outcome : LineOutcome) → now ≡ before → HasWriteCount before before outcome → HasWriteCount before now outcome
+writes_same : (before now : ℕ) (outcome : LineOutcome) → now ≡ before → HasWriteCount before before outcome → HasWriteCount before now outcome
 writes_same before now outcome same count = subst (λ (n : ℕ). HasWriteCount before n outcome) (sym same) count
 
 pub writes_calm : {A : Type 0} (before now : ℕ) (result : Result A LineOutcome) → now ≡ before → IfErr result (HasWriteCount before before) →
@@ -312,7 +309,7 @@ writes_calm before now (Err outcome) same count = writes_same before now outcome
 
 -- ---- the next line
 
-kept_next : {S : Type 0} (means : S → List ℕ → Meaning S) (start : S) (number : ℕ) (state : S) (kept next line pending : List ℕ) (l0 l1 t0 t1 : Option (List ℕ)) →
+pub kept_next : {S : Type 0} (means : S → List ℕ → Meaning S) (start : S) (number : ℕ) (state : S) (kept next line pending : List ℕ) (l0 l1 t0 t1 : Option (List ℕ)) →
     IsUnderWay means start number state kept pending l0 l1 t0 t1 → FitsLine line × (kept ≡ line ++ 10 ∷ next) → IsLineNext means start number state next pending l0 l1 t0 t1 (Ok line)
 kept_next means start number state kept next line pending l0 l1 t0 t1 way found =
     (found.0, subst (λ (bytes : List ℕ). IsUnderWay means start number state bytes pending l0 l1 t0 t1) found.1 way)

@@ -108,9 +108,63 @@ fn turn<I: Interpreter, S: Source, K: Sink>(
     ensures reads { MatchResult result (λ _. S.faults src.new ≡ S.faults src.old) (HasReadCount (S.faults src.old) (S.faults src.new)) }
     ensures writes { MatchResult result (λ _. K.faults out.new ≡ K.faults out.old) (HasWriteCount (K.faults out.old) (K.faults out.new)) }
 {
-    next_line::<I, S, K>(number, reader, line, pieces, src, out)?;
-    interpret_at(number, interpreter, line, pieces)?;
+    interpret_next(number, interpreter, reader, line, pieces, src, out)?;
     put_full(pieces, out)
+}
+
+// Has the line with a number interpreted. It is lent where it can be.
+fn interpret_next<I: Interpreter, S: Source, K: Sink>(
+    number: u64,
+    interpreter: &mut I,
+    reader: &mut LineReader,
+    line: &mut Vec<u8>,
+    pieces: &mut PieceWriter,
+    src: &mut S,
+    out: &mut K,
+) -> Result<(), LineOutcome>
+    requires few { number ≤ 4_000_000 }
+    requires holds { I.holds (I.state interpreter.old) }
+    ensures holds { OnOk result (I.holds (I.state interpreter.new)) }
+    ensures turn { (start : I.State) (left taken : Option (List ℕ)) →
+        IsUnderWay I.means start number (I.state interpreter.old) reader.old pieces.old left (S.left src.old) taken (K.taken out.old) →
+        IsTurn I.means start number (I.state interpreter.new) reader.new pieces.new left (S.left src.new) taken (K.taken out.new) result }
+    ensures reads { MatchResult result (λ _. S.faults src.new ≡ S.faults src.old) (HasReadCount (S.faults src.old) (S.faults src.new)) }
+    ensures writes { MatchResult result (λ _. K.faults out.new ≡ K.faults out.old) (HasWriteCount (K.faults out.old) (K.faults out.new)) }
+{
+    match reader.whole_line() {
+        Some(line) => {
+            let count = line.len();
+            let played = interpret_at(number, interpreter, line, pieces);
+            reader.skip(count + 1);
+            played
+        }
+        None => interpret_asked(number, interpreter, reader, line, pieces, src, out),
+    }
+}
+
+// The same of a line that can't be lent.
+#[cold]
+#[inline(never)]
+fn interpret_asked<I: Interpreter, S: Source, K: Sink>(
+    number: u64,
+    interpreter: &mut I,
+    reader: &mut LineReader,
+    line: &mut Vec<u8>,
+    pieces: &mut PieceWriter,
+    src: &mut S,
+    out: &mut K,
+) -> Result<(), LineOutcome>
+    requires few { number ≤ 4_000_000 }
+    requires holds { I.holds (I.state interpreter.old) }
+    ensures holds { OnOk result (I.holds (I.state interpreter.new)) }
+    ensures turn { (start : I.State) (left taken : Option (List ℕ)) →
+        IsUnderWay I.means start number (I.state interpreter.old) reader.old pieces.old left (S.left src.old) taken (K.taken out.old) →
+        IsTurn I.means start number (I.state interpreter.new) reader.new pieces.new left (S.left src.new) taken (K.taken out.new) result }
+    ensures reads { MatchResult result (λ _. S.faults src.new ≡ S.faults src.old) (HasReadCount (S.faults src.old) (S.faults src.new)) }
+    ensures writes { MatchResult result (λ _. K.faults out.new ≡ K.faults out.old) (HasWriteCount (K.faults out.old) (K.faults out.new)) }
+{
+    next_line::<I, S, K>(number, reader, line, pieces, src, out)?;
+    interpret_at(number, interpreter, line, pieces)
 }
 
 // Puts the line with a number into a buffer. Before the source is asked for more, which may wait, all that was said is put.

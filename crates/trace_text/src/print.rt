@@ -39,7 +39,7 @@ fn push_action(alloc: Global, action: &Action, bytes: &mut Vec<u8>) -> Result<()
             bytes.extend_from_slice(b"> admit ")?;
             push_number(cid.0, bytes)?;
             bytes.push(b' ')?;
-            push_address(alloc, *address, bytes)
+            push_address(alloc, address, bytes)
         }
         Action::Turnaway(away) => {
             bytes.extend_from_slice(b"> turnaway ")?;
@@ -49,7 +49,7 @@ fn push_action(alloc: Global, action: &Action, bytes: &mut Vec<u8>) -> Result<()
             bytes.extend_from_slice(b"> dial ")?;
             push_number(cid.0, bytes)?;
             bytes.push(b' ')?;
-            push_address(alloc, *address, bytes)
+            push_address(alloc, address, bytes)
         }
         Action::Send(cid, piece) => {
             bytes.extend_from_slice(b"> send ")?;
@@ -79,7 +79,7 @@ fn push_action(alloc: Global, action: &Action, bytes: &mut Vec<u8>) -> Result<()
         }
         Action::Peer(address, note) => {
             bytes.extend_from_slice(b"> peer ")?;
-            push_address(alloc, *address, bytes)?;
+            push_address(alloc, address, bytes)?;
             bytes.push(b' ')?;
             push_text(note_word(*note), bytes)
         }

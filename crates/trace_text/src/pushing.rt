@@ -37,10 +37,10 @@ pub(crate) fn push_text(word: &str, bytes: &mut Vec<u8>) -> Result<(), OutOfMemo
 /// An address.
 pub(crate) fn push_address(
     alloc: Global,
-    address: Addr,
+    address: &Addr,
     bytes: &mut Vec<u8>,
 ) -> Result<(), OutOfMemory>
-    ensures ok { OnOk result (bytes.new.items ≡ bytes.old.items ++ printed_address address) }
+    ensures ok { OnOk result (bytes.new.items ≡ bytes.old.items ++ printed_address address.now) }
     ensures err { OnErr result (bytes.new.items ≡ bytes.old.items) }
 {
     match address.ip {
@@ -58,11 +58,11 @@ pub(crate) fn push_address(
 
 // An address by its text.
 #[inline(never)]
-fn push_text_of(alloc: Global, address: Addr, bytes: &mut Vec<u8>) -> Result<(), OutOfMemory>
-    ensures ok { OnOk result (bytes.new.items ≡ bytes.old.items ++ printed_address address) }
+fn push_text_of(alloc: Global, address: &Addr, bytes: &mut Vec<u8>) -> Result<(), OutOfMemory>
+    ensures ok { OnOk result (bytes.new.items ≡ bytes.old.items ++ printed_address address.now) }
     ensures err { OnErr result (bytes.new.items ≡ bytes.old.items) }
 {
-    let text = line_text(alloc, AddressText(address))?;
+    let text = line_text(alloc, AddressText(*address))?;
     bytes.extend_from_slice(text.as_bytes())?;
     Ok(())
 }

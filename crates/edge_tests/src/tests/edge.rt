@@ -225,6 +225,35 @@ fn lines_that_are_kept_are_put_into_one_buffer(rt: HostRuntime) -> Result<(), Fa
     read(&rt, rt.alloc(), text, 65_536, &[], &KEPT_IN_TURN)
 }
 
+const LENT: [Step; 7] = [
+    Step::Lends(None),
+    Step::Next(Answer::Line(b"first")),
+    Step::Lends(Some(b"a longer second")),
+    Step::Keeps(Some(b"third")),
+    Step::Lends(Some(b"")),
+    Step::Lends(None),
+    Step::Called(1),
+];
+
+#[test]
+fn a_line_that_came_in_one_reading_is_lent(rt: HostRuntime) -> Result<(), Fail> {
+    let text = b"first\na longer second\nthird\n\nrest";
+    read(&rt, rt.alloc(), text, 65_536, &[], &LENT)
+}
+
+const LENT_AFTER_A_FAULT: [Step; 4] = [
+    Step::Next(Answer::Fault(LineFault::Failed)),
+    Step::Lends(None),
+    Step::Next(Answer::Line(b"begun before")),
+    Step::Lends(Some(b"after")),
+];
+
+#[test]
+fn a_line_that_was_begun_before_a_fault_is_not_lent(rt: HostRuntime) -> Result<(), Fail> {
+    let text = b"begun before\nafter\n";
+    read(&rt, rt.alloc(), text, 10, &[2], &LENT_AFTER_A_FAULT)
+}
+
 // Each piece with what is answered to it, and what the sink holds then.
 const PIECES: [(&[u8], Result<(), Failed>, &[u8]); 5] = [
     (b"abc", Ok(()), b"abc"),

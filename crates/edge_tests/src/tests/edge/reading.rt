@@ -24,6 +24,8 @@ pub(super) enum Step<'a> {
     Next(Answer<'a>),
     // This line is kept whole, or none.
     Keeps(Option<&'a [u8]>),
+    // This line is lent, and is then given up, or none is.
+    Lends(Option<&'a [u8]>),
     // The source was called so often.
     Called(u64),
 }
@@ -61,6 +63,26 @@ fn keeps(
     })
 }
 
+// Whether this line is lent, which is then given up.
+fn lends(reader: &mut LineReader, wanted: Option<&[u8]>) -> bool {
+    match reader.whole_line() {
+        Some(line) => {
+            let is_wanted = is_line(line, wanted);
+            let count = line.len();
+            reader.skip(count + 1);
+            is_wanted
+        }
+        None => wanted.is_none(),
+    }
+}
+
+fn is_line(line: &[u8], wanted: Option<&[u8]>) -> bool {
+    match wanted {
+        Some(bytes) => line == bytes,
+        None => false,
+    }
+}
+
 // Whether what a step asks for is seen.
 fn holds(
     reader: &mut LineReader,
@@ -71,6 +93,7 @@ fn holds(
     match step {
         Step::Next(answer) => Ok(gives(reader, src, answer)),
         Step::Keeps(wanted) => keeps(reader, kept, wanted),
+        Step::Lends(wanted) => Ok(lends(reader, wanted)),
         Step::Called(count) => Ok(src.calls() == count),
     }
 }
