@@ -64,10 +64,6 @@ pub fn place_and_peer(peers: &ChunkedList<Peer>, addr: Addr) -> (usize, Peer)
 fn peer_there(peers: &ChunkedList<Peer>, place: usize, addr: Addr) -> Option<Peer>
     ensures { result ≡ found_at (λ p. p.addr) addr (slice_get peers.now place) }
 {
-    let peer = peers.get(place)?;
-    if peer.addr.is_same(&addr) {
-        Some(*peer)
-    } else {
-        None
-    }
+    let peer = peers.get(place).copied()?;
+    (peer.addr == addr).then_some(peer)
 }
