@@ -3,10 +3,11 @@ use Rattle.std.proofs.Common.{◌≡◌, ◌≢◌, ℕ, ◌<◌, Bool, true, fa
 use Rattle.std.specs.Prelude.{filter}
 use Rattle.std.specs.List.{AllByRecursion}
 use Rattle.std.specs.Ordering.{nat_cmp, is_eq}
+use Rattle.std.specs.declared.cmp.Ordering.{Ordering}
 use Rattle.std.proofs.lemmas.Bool.{cases_Bool, eqb-true, eqb-false, ne_eqb, eq-eqb, le-ltb, ltb-true, ltb-false}
 use Rattle.local_clients.specs.Clients.{client_at, without, with_client}
 use Rattle.local_clients.specs.Kept.{IdsRise}
-use Rattle.local_clients.proofs.Lists.{compared, all_without, all_with, all_to}
+use Rattle.local_clients.proofs.Lists.{below, above, compared, all_without, all_with, all_to, all_found}
 
 -- no id is at another one
 apart : (m n : ℕ) → m ≢ n → is_eq (nat_cmp m n) ≡ false
@@ -95,6 +96,26 @@ module _ {X : Type 0} where
               let later : client_at id es ≡ None = ap (λ (b : Bool). cond b (Some e.1) (client_at id es)) (sym not_at) ∙ none in
               rw (ge, ne) (rw (ge, ne) (ap (λ (l : List (ℕ × X)). e ∷ l) (without_with id x es later)))
         ]
+      ]
+
+  first_with : (id : ℕ) (x : X) (es : List (ℕ × X)) → AllByRecursion (λ l. id < l.0) es → with_client id x es ≡ (id, x) ∷ es
+  first_with id x [] all = refl
+  first_with id x (e ∷ es) all = rw (below id e.0 all.0) refl
+
+  -- one that is put back as it was
+  pub back_again : (id : ℕ) (x : X) (es : List (ℕ × X)) → IdsRise es → client_at id es ≡ Some x → with_client id x (without id es) ≡ es
+  back_again id x [] rise found = absurd cc
+  back_again id x (e ∷ es) rise found =
+      elim (compared id e.0) [
+        | inl (same, equal) ↦
+            let here : Some e.1 ≡ Some x = ap (λ (o : Ordering). cond (is_eq o) (Some e.1) (client_at id es)) (sym equal) ∙ found in
+            let client : e.1 ≡ x = cc in
+            let later = all_to (λ l. e.0 < l.0) (λ l. id < l.0) es (λ l lt. omega (arith, same, lt)) rise.0 in
+            rw equal (first_with id x es later ∙ ap (λ (n : ℕ). (n, x) ∷ es) same ∙ ap (λ (y : X). (e.0, y) ∷ es) (sym client))
+        | inr other ↦
+            let later : client_at id es ≡ Some x = ap (λ (b : Bool). cond b (Some e.1) (client_at id es)) (sym other) ∙ found in
+            let between : e.0 < id = all_found (λ l. e.0 < l.0) id x es rise.0 later in
+            rw (other, above id e.0 between) (ap (λ (l : List (ℕ × X)). e ∷ l) (back_again id x es rise.1 later))
       ]
 
   pub absent_filter : (test : ℕ × X → Bool) (q : ℕ) (es : List (ℕ × X)) → client_at q es ≡ None → client_at q (filter test es) ≡ None

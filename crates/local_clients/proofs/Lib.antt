@@ -2,6 +2,7 @@ pub mod Answerable
 pub mod Streams
 pub mod Lists
 pub mod Ids
+pub mod PassedOver
 pub mod Keeps
 pub mod Laws
 mod Behaviour

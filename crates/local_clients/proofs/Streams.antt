@@ -19,12 +19,12 @@ pub record IsHearing (context : Context) (old_phase : Phase) (old_actions : List
   pub within : length rest ≤ length stream
   pub behind : drop (length stream - length rest) stream ≡ rest
 
-heard_turn : (context : Context) (phase : Phase) (s : Segment) (segments : List Segment) → heard context phase (s ∷ segments) ≡
+pub heard_turn : (context : Context) (phase : Phase) (s : Segment) (segments : List Segment) → heard context phase (s ∷ segments) ≡
     then_heard (segment_heard context phase s).actions (segment_heard context phase s).phase (λ next. heard context next segments)
 unfolding heard
 heard_turn context phase s segments = refl
 
-heard_end : (context : Context) (phase : Phase) → heard context phase [] ≡ goes_on phase
+pub heard_end : (context : Context) (phase : Phase) → heard context phase [] ≡ goes_on phase
 unfolding heard
 heard_end context phase = refl
 

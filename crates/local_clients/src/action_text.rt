@@ -1,32 +1,39 @@
-ghost use Rattle.std.specs.Prelude.{◌≡◌, IfOk};
-ghost use Rattle.std.specs.String.{string_bytes};
+ghost use Rattle.std.specs.Prelude.{◌≡◌};
 ghost use Rattle.local_clients.specs.Texts.{cause_words, printed_action};
 
 use crate::{ClientAction, ClientCause};
 use net_base::OutOfMemory;
-use std::alloc::{AllocError, Global};
-use trace_text::{PrintedLine, bytes_text, fault_words};
+use std::alloc::Global;
+use trace_text::{PrintedLine, fault_words, push_hex, push_number, push_text};
 
 impl PrintedLine for ClientAction {
     ghost text = { printed_action };
 
-    fn print(&self, alloc: Global, bytes: &mut Vec<u8>) -> Result<(), OutOfMemory> {
-        let text = action_text(alloc, self)?;
-        bytes.extend_from_slice(text.as_bytes())?;
-        Ok(())
-    }
-}
-
-fn action_text(alloc: Global, action: &ClientAction) -> Result<String, AllocError>
-    ensures { IfOk result (λ text. string_bytes text ≡ printed_action action.now) }
-{
-    match action {
-        ClientAction::Admit(id) => format!(in alloc; "> admit {id}"),
-        ClientAction::Turnaway => format!(in alloc; "> turnaway"),
-        ClientAction::Send(id, bytes) => bytes_text(alloc, "> send", *id, bytes.as_slice()),
-        ClientAction::Open(id, version) => format!(in alloc; "> open {id} {version}"),
-        ClientAction::Close(id, cause) => {
-            format!(in alloc; "> close {id} {}", cause_words(*cause))
+    fn print(&self, _: Global, bytes: &mut Vec<u8>) -> Result<(), OutOfMemory> {
+        match self {
+            ClientAction::Admit(id) => {
+                bytes.extend_from_slice(b"> admit ")?;
+                push_number(*id, bytes)
+            }
+            ClientAction::Turnaway => push_text("> turnaway", bytes),
+            ClientAction::Send(id, piece) => {
+                bytes.extend_from_slice(b"> send ")?;
+                push_number(*id, bytes)?;
+                bytes.push(b' ')?;
+                push_hex(piece.as_slice(), bytes)
+            }
+            ClientAction::Open(id, version) => {
+                bytes.extend_from_slice(b"> open ")?;
+                push_number(*id, bytes)?;
+                bytes.push(b' ')?;
+                push_number(*version, bytes)
+            }
+            ClientAction::Close(id, cause) => {
+                bytes.extend_from_slice(b"> close ")?;
+                push_number(*id, bytes)?;
+                bytes.push(b' ')?;
+                push_text(cause_words(*cause), bytes)
+            }
         }
     }
 }

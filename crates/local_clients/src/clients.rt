@@ -1,4 +1,4 @@
-ghost use Rattle.std.specs.Prelude.{◌≡◌, ℕ, ◌+◌, ◌≤◌, ◌<◌, IfOk, Some};
+ghost use Rattle.std.specs.Prelude.{◌≡◌, ℕ, ◌+◌, ◌≤◌, ◌<◌, IfOk, OnOk, Some};
 ghost use Rattle.local_clients.specs.Law.{LeavesOpen, TurnsAway};
 ghost use Rattle.local_clients.specs.Rules.{AreInRange, CanHappen};
 ghost use Rattle.local_clients.specs.Clients.{no_clients, live, open_version, stepped};
@@ -41,14 +41,6 @@ impl Clients {
         }
     }
 
-    /// What the node keeps to.
-    pub(crate) fn rules(&self) -> ClientRules
-        ensures rules { result ≡ self.now.rules }
-        ensures ranges { AreInRange result }
-    {
-        self.rules
-    }
-
     /// How many events there were.
     pub fn taken(&self) -> u64
         ensures taken { result ≡ self.now.taken }
@@ -87,17 +79,34 @@ impl Clients {
         ensures turned_away { IfOk result (λ done. TurnsAway self.rules event self.table done.1) }
         ensures stays { IfOk result (λ done. (id version : ℕ) → open_version id self.table ≡ Some version → LeavesOpen event id version done.0.table done.1) }
     {
-        let Clients {
-            rules,
-            taken,
-            mut table,
-        } = self;
-        let actions = table.take(&rules, &event)?;
-        let clients = Clients {
-            rules,
-            taken: taken + 1,
-            table,
-        };
+        let mut clients = self;
+        let actions = clients.take(&event)?;
         Ok((clients, actions))
+    }
+
+    /// An event happens in place. Gives what is done. Where memory is refused nobody is there any more.
+    pub(crate) fn take(&mut self, event: &ClientEvent) -> Result<ClientActions, OutOfMemory>
+        requires few { self.old.taken < 1000000 }
+        requires event { CanHappen event.now }
+        ensures clients { OnOk result (self.new ≡ record {
+          rules = self.old.rules;
+          taken = self.old.taken + 1;
+          table = (stepped self.old.rules event.now self.old.table).table;
+        }) }
+        ensures actions { IfOk result (λ actions. actions ≡ (stepped self.old.rules event.now self.old.table).actions) }
+        ensures few { OnOk result (live self.new.table ≤ self.new.rules.limit) }
+        ensures turned_away { IfOk result (λ actions. TurnsAway self.old.rules event.now self.old.table actions) }
+        ensures stays { IfOk result (λ actions. (id version : ℕ) → open_version id self.old.table ≡ Some version → LeavesOpen event.now id version self.new.table actions) }
+    {
+        match self.table.take(&self.rules, event) {
+            Ok(actions) => {
+                self.taken += 1;
+                Ok(actions)
+            }
+            Err(error) => {
+                self.table.clear();
+                Err(error)
+            }
+        }
     }
 }

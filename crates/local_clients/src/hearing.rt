@@ -1,17 +1,19 @@
 //! What comes of one segment of a client.
 
-ghost use Rattle.std.specs.Prelude.{◌≡◌, ◌≤◌, [], ◌∷◌, ◌++◌, drop, take, length, IfOk, OnOk, Some};
+ghost use Rattle.std.specs.Prelude.{◌≡◌, ◌≤◌, ℕ, List, [], ◌∷◌, ◌++◌, drop, take, length, IfOk, OnOk, IsTrue, Some};
 ghost use Rattle.mux_segment.specs.Steps.{segment_with};
 ghost use Rattle.hs_message.specs.Reading.{client_message_of};
 ghost use Rattle.local_clients.specs.Agreement.{CanAnswer};
-ghost use Rattle.local_clients.specs.Hearing.{faults, closes, sends, opens, concluded, item_heard, part_heard, payload_heard, segment_heard};
+ghost use Rattle.local_clients.specs.declared.context.Context.{Context};
+ghost use Rattle.local_clients.specs.declared.phase.Phase.TheVariants.{Open};
+ghost use Rattle.local_clients.specs.Hearing.{faults, goes_on, closes, sends, opens, concluded, item_heard, part_heard, payload_heard, segment_heard};
 
 use crate::context::Context;
 use crate::decision::{Decision, answer, decide};
 use crate::phase::Phase;
 use crate::protocol::header_fault;
 use crate::{ClientAction, ClientActions, ClientCause};
-use cbor_items::Scan;
+use cbor_items::first_item;
 use hs_message::{Message, read_client_message};
 use hs_receive::{fault_of, kind_of};
 use mux_segment::{Header, Waiting, frame, next_item};
@@ -21,6 +23,17 @@ use std::alloc::Global;
 
 // How many bytes a message of the handshake may have.
 const HANDSHAKE_LIMIT: usize = 5760;
+
+/// An open client may send a segment with this header, and it is passed over.
+pub(crate) fn is_passed_over(header: &Header) -> bool
+    ensures { IsTrue result → (context : Context) (version : ℕ) (payload : List ℕ) →
+        segment_heard context (Open version) (segment_with header.now payload) ≡ goes_on (Open version) }
+{
+    match header_fault(header) {
+        Some(_) => false,
+        None => header.id != HANDSHAKE,
+    }
+}
 
 /// How far a client comes by a segment, or None where it is closed.
 #[tactic(auto, unfolding(crate::specs::Hearing::segment_heard))]
@@ -75,11 +88,35 @@ fn hear_handshake(
     ensures phase { IfOk result (λ next. next ≡ (part_heard context.now until (part ++ payload.now)).phase) }
     ensures actions { OnOk result (actions.new ≡ actions.old ++ (part_heard context.now until (part ++ payload.now)).actions) }
 {
+    // where nothing waits the item is scanned where it lies
+    if part.as_slice().is_empty() {
+        return hear_alone(alloc, context, until, payload, actions);
+    }
     let mut part = part;
     let scan = part.extend(payload)?;
     match next_item(HANDSHAKE_LIMIT, part.as_slice(), scan) {
         Ok(None) => Ok(Some(Phase::Greeting(until, part))),
         Ok(Some(size)) => hear_item(alloc, context, part.as_slice(), size, actions),
+        Err(fault) => close_for(context, kind_of(fault), actions),
+    }
+}
+
+fn hear_alone(
+    alloc: Global,
+    context: &Context,
+    until: u64,
+    payload: &[u8],
+    actions: &mut ClientActions,
+) -> Result<Option<Phase>, OutOfMemory>
+    ensures phase { IfOk result (λ next. next ≡ (part_heard context.now until payload.now).phase) }
+    ensures actions { OnOk result (actions.new ≡ actions.old ++ (part_heard context.now until payload.now).actions) }
+{
+    match next_item(HANDSHAKE_LIMIT, payload, first_item(payload)) {
+        Ok(None) => {
+            let part = Waiting::from_slice(alloc, payload)?;
+            Ok(Some(Phase::Greeting(until, part)))
+        }
+        Ok(Some(size)) => hear_item(alloc, context, payload, size, actions),
         Err(fault) => close_for(context, kind_of(fault), actions),
     }
 }

@@ -9,7 +9,6 @@ use io_edge::PieceWriter;
 use line_run::{Interpreter, Stop, tell_line};
 use std::alloc::Global;
 use std::marker::Model;
-use std::mem;
 
 // How many events there may be.
 const EVENTS_MOST: u64 = 1_000_000;
@@ -54,11 +53,8 @@ impl ClientsReplay {
         if self.clients.taken() >= EVENTS_MOST {
             return Err(Stop::TooMany);
         }
-        let nobody = Clients::new(self.alloc, self.clients.rules());
-        let clients = mem::replace(&mut self.clients, nobody);
-        let (clients, actions) = clients.step(event)?;
+        let actions = self.clients.take(&event)?;
         tell_line(self.alloc, line, actions.as_slice(), pieces)?;
-        self.clients = clients;
         Ok(())
     }
 }

@@ -1,11 +1,12 @@
-ghost use Rattle.std.specs.Prelude.{◌≡◌, ◌≤◌, ◌<◌, ◌^◌, ◌++◌, not, map, filter, IfOk, OnOk, Some};
-ghost use Rattle.local_clients.specs.Clients.{no_clients, live, open_version, is_due, waited_too_long, clock_shows, joins, admitted, leaves, hears, bytes_come, put_back, stepped};
-ghost use Rattle.local_clients.specs.Kept.{RiseInTime, TakesLate};
+ghost use Rattle.std.specs.Prelude.{◌≡◌, ◌≤◌, ◌<◌, ◌^◌, ◌++◌, not, map, filter, IfOk, OnOk, Some, IsTrue};
+ghost use Rattle.local_clients.specs.Clients.{no_clients, live, open_version, is_due, waited_too_long, clock_shows, joins, admitted, leaves, hears, bytes_come, nothing_done, put_back, stepped};
+ghost use Rattle.local_clients.specs.Kept.{AreApart, IdsRise, RiseInTime, TakesLate};
+ghost use Rattle.local_clients.specs.declared.rules.ClientRules.{ClientRules};
 
 use crate::client::{GreetingClient, OpenClient};
 use crate::context::Context;
 use crate::phase::Phase;
-use crate::stream::hear;
+use crate::stream::{are_passed_over, hear};
 use crate::{ClientAction, ClientActions, ClientCause, ClientEvent, ClientRules};
 use mux_segment::Waiting;
 use net_base::{FaultKind, Octets, OutOfMemory};
@@ -63,6 +64,13 @@ impl Table {
         self.opened.get(&id).map(|client| client.version)
     }
 
+    /// Nobody is connected any more, and nobody ever was.
+    pub fn clear(&mut self)
+        ensures { self.new ≡ no_clients }
+    {
+        *self = Table::new(self.alloc);
+    }
+
     /// An event happens. Gives what is done.
     pub fn take(
         &mut self,
@@ -70,6 +78,8 @@ impl Table {
         event: &ClientEvent,
     ) -> Result<ClientActions, OutOfMemory>
         requires rise { RiseInTime self.old.greeting }
+        requires opened_rise { IdsRise self.old.opened }
+        requires apart { AreApart self.old }
         requires id { self.old.next_id < 2 ^ 48 }
         requires moment { self.old.moment ≤ 2 ^ 48 }
         requires wait { rules.now.wait ≤ 86400000 }
@@ -149,6 +159,36 @@ impl Table {
 
     // Bytes come from a client, if there is one with the id.
     fn bytes_come(
+        &mut self,
+        rules: &ClientRules,
+        id: u64,
+        bytes: &[u8],
+    ) -> Result<ClientActions, OutOfMemory>
+        requires opened_rise { IdsRise self.old.opened }
+        requires apart { AreApart self.old }
+        ensures table { OnOk result (self.new ≡ (bytes_come rules.now id bytes.now self.old).table) }
+        ensures actions { IfOk result (λ actions. actions ≡ (bytes_come rules.now id bytes.now self.old).actions) }
+    {
+        if self.passes_over(id, bytes) {
+            return Ok(ClientActions::new(self.alloc));
+        }
+        self.bytes_change(rules, id, bytes)
+    }
+
+    // The client with an id is open, nothing of it waits, and these bytes of it are passed over.
+    fn passes_over(&self, id: u64, bytes: &[u8]) -> bool
+        requires opened_rise { IdsRise self.now.opened }
+        requires apart { AreApart self.now }
+        ensures { IsTrue result → (rules : ClientRules) → bytes_come rules id bytes.now self.now ≡ nothing_done self.now }
+    {
+        match self.opened.get(&id) {
+            Some(client) => client.rest.as_slice().is_empty() && are_passed_over(bytes),
+            None => false,
+        }
+    }
+
+    // The client with these bytes is taken out, if there is one, and put back.
+    fn bytes_change(
         &mut self,
         rules: &ClientRules,
         id: u64,

@@ -30,6 +30,7 @@ pub use magic::read_magic;
 pub use piece::bytes_text;
 pub use print::{fault_words, print_action};
 pub use printed_line::PrintedLine;
+pub use pushing::{push_hex, push_number, push_text};
 pub use read::read_line;
 pub use stage::Stage;
 pub use words::Words;

@@ -12,7 +12,7 @@ use net_base::{Addr, Ip, OutOfMemory};
 use std::alloc::Global;
 
 /// A number in decimal. Most have one digit.
-pub(crate) fn push_number(number: u64, bytes: &mut Vec<u8>) -> Result<(), OutOfMemory>
+pub fn push_number(number: u64, bytes: &mut Vec<u8>) -> Result<(), OutOfMemory>
     ensures ok { OnOk result (bytes.new.items ≡ bytes.old.items ++ decimal number) }
     ensures err { OnErr result (bytes.new.items ≡ bytes.old.items) }
 {
@@ -26,7 +26,7 @@ pub(crate) fn push_number(number: u64, bytes: &mut Vec<u8>) -> Result<(), OutOfM
 }
 
 /// A word.
-pub(crate) fn push_text(word: &str, bytes: &mut Vec<u8>) -> Result<(), OutOfMemory>
+pub fn push_text(word: &str, bytes: &mut Vec<u8>) -> Result<(), OutOfMemory>
     ensures ok { OnOk result (bytes.new.items ≡ bytes.old.items ++ word.now) }
     ensures err { OnErr result (bytes.new.items ≡ bytes.old.items) }
 {
@@ -85,7 +85,7 @@ fn push_ipv4(ip: u32, port: u16, bytes: &mut Vec<u8>) -> Result<(), OutOfMemory>
 }
 
 /// Bytes in hexadecimal.
-pub(crate) fn push_hex(piece: &[u8], bytes: &mut Vec<u8>) -> Result<(), OutOfMemory>
+pub fn push_hex(piece: &[u8], bytes: &mut Vec<u8>) -> Result<(), OutOfMemory>
     ensures ok { OnOk result (bytes.new.items ≡ bytes.old.items ++ encode_lower piece.now) }
     ensures err { OnErr result (bytes.new.items ≡ bytes.old.items) }
 {
