@@ -41,11 +41,6 @@ if_some P (Some f) h = h f refl
 pub place_inside : (xs : List ConnState) (place : ℕ) (f : Facts) → slice_get (map facts_of xs) place ≡ Some f → place < length xs
 place_inside xs place f at = omega (arith, slice_get_within (map facts_of xs) place f at, length-map xs facts_of)
 
-pub state_inside : (cid above most : ℕ) (xs : List ConnState) (f : Facts) → IdsRise above most (map facts_of xs) → facts_at cid (map facts_of xs) ≡ Some f →
-    id_place cid (map facts_of xs) < length xs
-state_inside cid above most xs f rises found =
-    place_inside xs (id_place cid (map facts_of xs)) f (get-place cid above most (map facts_of xs) f rises found)
-
 is_facts : (x : ConnState) (f : Facts) → option_map facts_of (Some x) ≡ Some f → facts_of x ≡ f
 is_facts x f h = cc
 

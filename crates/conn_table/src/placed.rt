@@ -1,4 +1,4 @@
-ghost use Rattle.std.specs.Prelude.{◌≡◌, ◌<◌, [], true, Some, length, OnOk, OnErr, slice_get, IsTrue};
+ghost use Rattle.std.specs.Prelude.{◌≡◌, ◌<◌, [], Some, length, OnOk, OnErr, slice_get, IsTrue};
 ghost use Rattle.std.specs.List.{prefix_len};
 ghost use Rattle.conn_table.specs.Index.{IsRising, placed_below, put_in, taken_out, stands, last_at, found_at, up_to, before};
 

@@ -1,15 +1,15 @@
 -- The links by which the rules count, after a change of all links.
-use Rattle.std.proofs.Common.{◌≡◌, ℕ, ◌<◌, Bool, true, false, not, ◌&&◌, cond, List, [], ◌∷◌, filter, length, slice_get, Option, Some, None, is_some, refl, sym, ap, subst, ◌∙◌, inl, inr}
-use Rattle.std.specs.List.{AllByRecursion, list_any}
+use Rattle.std.proofs.Common.{◌≡◌, ℕ, ◌<◌, Bool, true, false, not, ◌&&◌, cond, List, [], ◌∷◌, filter, slice_get, Option, Some, None, is_some, refl, sym, ap, ◌∙◌, inl, inr}
+use Rattle.std.specs.List.{AllByRecursion}
 use Rattle.std.proofs.Math.Bool.{and_comm}
-use Rattle.std.proofs.lemmas.Bool.{cases_Bool, true≢false, false≢true, false_from_ne_true}
+use Rattle.std.proofs.lemmas.Bool.{cases_Bool, true≢false, false≢true}
 use Rattle.conn_table.specs.Index.{placed_below, same_placed}
 use Rattle.conn_table.specs.declared.placed.Placed.{Placed}
-use Rattle.govern_rules.specs.Lent.{is_counted, AreLent}
+use Rattle.govern_rules.specs.Lent.{is_counted}
 use Rattle.govern_rules.specs.SortedLinks.{IsInOrder, link_below}
 use Rattle.govern_rules.specs.declared.link.Link.{Link}
 use Rattle.govern_rules.proofs.FoundMembers.{filter-twice, filter-same}
-use Rattle.timer_queue.proofs.Rising.{never_both, below_is_other, above_is_other, any-above, taken_out-above, replaced-above, above_when_same, above_when_not_below, AllAbove-filter, found, find-place, any-find}
+use Rattle.timer_queue.proofs.Rising.{never_both, below_is_other, any-above, taken_out-above, replaced-above, above_when_same, above_when_not_below, AllAbove-filter, found, find-place, any-find}
 use Rattle.connections.specs.Linked.{place_of, AreInOrder, stands_at, link_at, with_new, with_link, without_link, counted_anew}
 use Rattle.connections.proofs.LinkEdits.{placed_order, row_of, in_order-without, all_stay}
 

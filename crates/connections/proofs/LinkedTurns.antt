@@ -2,7 +2,7 @@
 use Rattle.std.proofs.Common.{◌≡◌, Bool, true, false, not, cond, ◌&&◌, ◌||◌, List, [], ◌∷◌, ◌++◌, map, find, Option, Some, None, IfSome, IsSome, IsSomeAnd, refl, sym, ap, subst, ◌∙◌, inl, inr, arith}
 use Rattle.std.specs.List.{AllByRecursion, list_any}
 use Rattle.std.specs.Option.{option_map}
-use Rattle.std.proofs.lemmas.Bool.{cases_Bool, or_parts, and_right, true≢false}
+use Rattle.std.proofs.lemmas.Bool.{cases_Bool, and_right, true≢false}
 use Rattle.std.proofs.lemmas.Bool.Decides.{nat_tests}
 use Rattle.std.proofs.lemmas.List.{map-append}
 use Rattle.std.proofs.lemmas.List.Folds.{list_any-append}
@@ -27,7 +27,7 @@ use Rattle.timer_queue.proofs.Rising.{find-replaced}
 use Rattle.connections.specs.Linked.{links_in, place_of, stands_at, HaveSameLinks, with_new, with_link, without_link, IsLinked, IsLinkedWith, IsLinkedBut, IsLinkedIf}
 use Rattle.connections.specs.Standing.{Standing, entry_with, turned, come, gone, Turns}
 use Rattle.connections.specs.Timed.{ids_in, IsTimed}
-use Rattle.connections.proofs.LinkEdits.{placed_order, any-new, stands-new, any-with_link, same-with_link, same-without_link, left_again}
+use Rattle.connections.proofs.LinkEdits.{any-new, same-with_link, same-without_link, left_again}
 use Rattle.connections.proofs.TimedTurns.{id_of, turned_in, others_in, stands_as, own_id, found_one, if_found, stands_in, some_of}
 
 abbrev links_of : List Entry → List Link

@@ -1,6 +1,6 @@
 -- Which connection goes first, after a change of one.
-use Rattle.std.proofs.Common.{◌≡◌, ℕ, zero, suc, ◌+◌, ◌<◌, ◌≤◌, nat_eq, Bool, true, false, not, ◌||◌, if◌then◌else◌, List, [], ◌∷◌, ◌++◌, map, length, slice_get, Option, Some, None, refl, sym, ap, subst, ◌∙◌, inl, inr, arith}
-use Rattle.std.specs.List.{AllByRecursion, filter_map, cons_option, list_any}
+use Rattle.std.proofs.Common.{◌≡◌, ℕ, zero, suc, ◌+◌, ◌<◌, ◌≤◌, nat_eq, Bool, true, false, ◌||◌, if◌then◌else◌, List, [], ◌∷◌, ◌++◌, map, length, slice_get, Option, Some, None, refl, sym, ap, subst, ◌∙◌, inl, inr, arith}
+use Rattle.std.specs.List.{AllByRecursion, filter_map, cons_option}
 use Rattle.std.specs.Option.{option_eq}
 use Rattle.std.proofs.lemmas.Bool.{cases_Bool, false≢true, true≢false}
 use Rattle.std.proofs.lemmas.Bool.Decides.{nat_tests}
@@ -9,7 +9,6 @@ use Rattle.std.proofs.lemmas.Option.{same_Some, slice_get_within, none-some}
 use Rattle.accept_gate.specs.Prune.{rank_of}
 use Rattle.conn_state.specs.Use.{has_id, facts_at}
 use Rattle.conn_table.specs.Conditions.{CanStep, after_step}
-use Rattle.conn_table.specs.Finds.{id_place}
 use Rattle.conn_table.specs.Rosters.{facts_kept}
 use Rattle.conn_table.specs.Table.{IdsRise, moved_at, without_at}
 use Rattle.conn_table.specs.declared.roster.Roster.{Roster}
@@ -22,10 +21,10 @@ use Rattle.net_base.specs.declared.connection.Facts.{Facts}
 use Rattle.prune_order.specs.Order.{Order, candidates, stands, with_rank, without}
 use Rattle.prune_order.specs.declared.ranked.Ranked.{Ranked}
 use Rattle.timer_queue.proofs.Orders.{same_cid-is}
-use Rattle.connections.specs.Kept.{IsWhole, standing}
+use Rattle.connections.specs.Kept.{IsWhole}
 use Rattle.connections.specs.Ordered.{row_of, rows_in, IsOrdered, reranked}
 use Rattle.connections.specs.declared.kept.Kept.{Kept}
-use Rattle.connections.proofs.Stepping.{FoundIn, placed_in, keeps_id}
+use Rattle.connections.proofs.Stepping.{FoundIn, keeps_id}
 use Rattle.connections.proofs.TalkTurns.{Any}
 
 -- ---- the candidates are those of the facts

@@ -1,5 +1,5 @@
 -- What stands at the place of a connection: its facts, and what is kept beside them.
-use Rattle.std.proofs.Common.{◌≡◌, ℕ, ◌<◌, Some, IsSome, get_or, length, slice_get, refl, sym, ap, subst, ◌∙◌, arith}
+use Rattle.std.proofs.Common.{◌≡◌, ℕ, ◌<◌, Some, IsSome, get_or, length, slice_get, sym, ap, ◌∙◌}
 use Rattle.std.proofs.lemmas.Option.{get_or_from_slice_get, same_Some, slice_get_within}
 use Rattle.conn_table.specs.Finds.{id_place}
 use Rattle.conn_table.specs.Rosters.{facts_kept}
@@ -8,7 +8,7 @@ use Rattle.machine.specs.Govern.{link_of}
 use Rattle.net_base.specs.Shared.{nothing_undecoded}
 use Rattle.net_base.specs.declared.connection.Cid.{Cid}
 use Rattle.net_base.specs.declared.connection.Facts.{Facts}
-use Rattle.connections.specs.Kept.{IsWhole, table_of, standing}
+use Rattle.connections.specs.Kept.{IsWhole, standing}
 use Rattle.connections.specs.Standing.{entry_with}
 use Rattle.connections.specs.Talks.{entry_of}
 use Rattle.connections.specs.declared.kept.Kept.{Kept}

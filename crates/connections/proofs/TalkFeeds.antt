@@ -66,15 +66,6 @@ still_inside change ts news k inside h =
     let is : news ≡ set ts k (change there.0) = said_there (λ t. news ≡ set ts k (change t)) ts k there.0 there.1 h in
     slice_get_within news k (change there.0) (ap (λ us. slice_get us k) is ∙ get_set ts k (change there.0) inside)
 
-pub turns_twice : (first second whole_change : Talk → Talk) (ts mid news : List Talk) (k : ℕ) (t : Talk) → slice_get ts k ≡ Some t → k < length ts →
-    TurnsAt k first ts mid → TurnsAt k second mid news → second (first t) ≡ whole_change t → TurnsAt k whole_change ts news
-turns_twice first second whole_change ts mid news k t there inside h g e =
-    let mid_is : mid ≡ set ts k (first t) = said_there (λ u. mid ≡ set ts k (first u)) ts k t there h in
-    let mid_there : slice_get mid k ≡ Some (first t) = ap (λ us. slice_get us k) mid_is ∙ get_set ts k (first t) inside in
-    let is : news ≡ set mid k (second (first t)) = said_there (λ u. news ≡ set mid k (second u)) mid k (first t) mid_there g in
-    subst (λ o. IfSome o (λ u. news ≡ set ts k (whole_change u))) (sym there)
-    (is ∙ (ap (λ us. set us k (second (first t))) mid_is ∙ (set-set ts k (first t) (second (first t)) ∙ ap (set ts k) e)))
-
 -- one that was taken out of its place, and put back as another
 pub put_changed : (change : Talk → Talk) (ts out back : List Talk) (k : ℕ) (t new : Talk) → slice_get ts k ≡ Some t →
     out ≡ set ts k fresh_talk → back ≡ set out k new → new ≡ change t → TurnsAt k change ts back

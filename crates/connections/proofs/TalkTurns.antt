@@ -45,14 +45,6 @@ some_one cid s h = some (entry_with cid s) h
     some None k = cc
     some (Some e) k = tt
 
--- what the table asks
-pub asked_of : (P : Facts → Type 0) (cid : ℕ) (t : Table) (ts : List Talk) → Found P cid t ts → IsSomeAnd (facts_at cid t.facts) P
-asked_of P cid t ts f = subst (λ o. IsSomeAnd o P) (sym f.at.facts_there) f.holds
-
--- what the table says of it
-pub said_of : (Q : Facts → Type 0) (o : Option Facts) (f : Facts) → o ≡ Some f → IfSome o Q → Q f
-said_of Q o f e h = subst (λ p. IfSome p Q) e h
-
 -- where its facts stand
 pub facts_placed : {P : Facts → Type 0} (cid place : ℕ) (t : Table) (ts : List Talk) → IsStanding t ts → (it : Found P cid t ts) →
     place ≡ id_place cid t.facts → slice_get t.facts place ≡ Some it.facts

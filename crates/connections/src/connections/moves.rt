@@ -1,4 +1,4 @@
-ghost use Rattle.std.specs.Prelude.{◌≡◌, ◌≤◌, ◌+◌, ◌^◌, false, true, None, IsSomeAnd, IsSome, IfOk, OnOk, OnErr};
+ghost use Rattle.std.specs.Prelude.{◌≡◌, ◌≤◌, ◌+◌, ◌^◌, false, None, IsSomeAnd, IsSome, IfOk, OnOk, OnErr};
 ghost use Rattle.conn_state.specs.Moves.{accepted, dialing};
 ghost use Rattle.conn_state.specs.State.{facts_of};
 ghost use Rattle.conn_state.specs.Use.{live_at};

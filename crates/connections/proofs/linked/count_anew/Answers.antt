@@ -1,4 +1,4 @@
-use Rattle.std.proofs.Common.{◌≡◌, List, Bool, true, false, sym, ap, subst, ◌∙◌, rules}
+use Rattle.std.proofs.Common.{◌≡◌, ap, ◌∙◌}
 use Rattle.conn_table.specs.declared.placed.Placed.{Placed}
 use Rattle.govern_rules.specs.declared.link.Link.{Link}
 use Rattle.connections.specs.Linked.{place_of, stands_at, without_link}

@@ -1,4 +1,4 @@
-use Rattle.std.proofs.Common.{◌≡◌, ◌<◌, List, Bool, true, false, length, sym, ap, subst, ◌∙◌, rules}
+use Rattle.std.proofs.Common.{◌≡◌, ◌<◌, List, true, false, length, sym, ap, subst, ◌∙◌, rules}
 use Rattle.govern_rules.specs.declared.link.Link.{Link}
 use Rattle.connections.specs.Linked.{AreInOrder, stands_at, without_link}
 use Rattle.connections.proofs.CountedLinks.{found-in_row}

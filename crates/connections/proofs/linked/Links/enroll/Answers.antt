@@ -1,8 +1,7 @@
 use Rattle.std.proofs.Common.{◌≡◌, sym, ap, ◌∙◌}
 use Rattle.std.specs.List.{filter}
-use Rattle.std.proofs.lemmas.Result.{on_ok_weaker}
 use Rattle.govern_rules.specs.Lent.{is_counted}
-use Rattle.connections.specs.Linked.{place_of, stands_at, with_new}
+use Rattle.connections.specs.Linked.{place_of, stands_at}
 use Rattle.connections.proofs.CountedLinks.{counted-entered}
 use Rattle.connections.proofs.linked.Links.enroll.Goals as goal
 

@@ -1,4 +1,4 @@
-use Rattle.std.proofs.Common.{◌≡◌, true, sym, ap, ◌∙◌}
+use Rattle.std.proofs.Common.{◌≡◌, sym, ap, ◌∙◌}
 use Rattle.std.specs.List.{filter}
 use Rattle.govern_rules.specs.Lent.{is_counted}
 use Rattle.connections.specs.Linked.{place_of, stands_at, with_link}
