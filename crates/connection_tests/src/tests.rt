@@ -6,6 +6,7 @@ use net_base::{Addr, Agreed, Ip, Responders, Settings};
 
 mod chunks;
 mod gate;
+mod least;
 mod order;
 mod plain;
 mod pruning;

@@ -2,7 +2,7 @@ use net_base::{Cid, Kind};
 use std::alloc::Global;
 use std::process::Abort;
 use std::test::Fail;
-use timer_queue::TimerQueue;
+use timer_queue::{Moments, TimerQueue};
 
 type Timer = (u64, Cid, Kind);
 
@@ -13,6 +13,8 @@ enum Step {
     Leaves(Cid),
     Sets(Timer),
     Clears(Cid, Kind),
+    // All six at once.
+    Puts(Cid, Moments),
     // This timer is the first of all.
     Leads(Option<Timer>),
     // This timer fires at a moment.
@@ -30,12 +32,18 @@ fn set(rt: &impl Abort, queue: &mut TimerQueue, (at, cid, kind): Timer) {
     queue.set(cid, kind, at);
 }
 
+fn put(rt: &impl Abort, queue: &mut TimerQueue, cid: Cid, moments: &Moments) {
+    assert!(rt; queue.is_enrolled(cid));
+    queue.put(cid, moments);
+}
+
 fn take(rt: &impl Abort, queue: &mut TimerQueue, step: Step) -> Result<(), Fail> {
     match step {
         Step::Enrolls(cid) => queue.enroll(cid)?,
         Step::Leaves(cid) => queue.leave(cid),
         Step::Sets(timer) => set(rt, queue, timer),
         Step::Clears(cid, kind) => queue.clear(cid, kind),
+        Step::Puts(cid, moments) => put(rt, queue, cid, &moments),
         Step::Leads(timer) => assert!(rt; queue.least() == timer),
         Step::Fires(now, timer) => assert!(rt; queue.pop_due(now) == timer),
         Step::Enrolled(cid, enrolled) => assert!(rt; queue.is_enrolled(cid) == enrolled),
@@ -216,4 +224,39 @@ fn what_was_taken_out_does_not_fire(rt: HostRuntime) -> Result<(), Fail> {
     take_all(&rt, &mut queue, &TAKEN_OUT)?;
     some_are_moved_again_and_again(&rt, &mut queue)?;
     graces_fire(&rt, &mut queue, &LEFT)
+}
+
+const NO_MOMENTS: Moments = Moments {
+    handshake: None,
+    grace: None,
+    time_wait: None,
+    reply2: None,
+    reply8: None,
+    reply10: None,
+};
+
+const A_GRACE_AND_A_REPLY: Moments = Moments {
+    grace: Some(6000),
+    reply8: Some(5000),
+    ..NO_MOMENTS
+};
+
+const PUT_AT_ONCE: [Step; 11] = [
+    Step::Enrolls(ONE),
+    Step::Enrolls(TWO),
+    Step::Sets((5500, TWO, Kind::Grace)),
+    Step::Sets((1000, ONE, Kind::Handshake)),
+    // what it had is gone
+    Step::Puts(ONE, A_GRACE_AND_A_REPLY),
+    Step::Fires(4999, None),
+    Step::Fires(5000, Some((5000, ONE, Kind::Reply8))),
+    Step::Leads(Some((5500, TWO, Kind::Grace))),
+    Step::Puts(TWO, NO_MOMENTS),
+    Step::Leads(Some((6000, ONE, Kind::Grace))),
+    Step::Grace(TWO, None),
+];
+
+#[test]
+fn all_timers_are_put_at_once(rt: HostRuntime) -> Result<(), Fail> {
+    run(&rt, rt.alloc(), &PUT_AT_ONCE)
 }
