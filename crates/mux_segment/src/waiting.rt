@@ -40,6 +40,10 @@ impl Waiting {
         ensures { IfOk result (λ waiting. waiting ≡ bytes.now) }
     {
         let mut waiting = Waiting::new(alloc);
+        // mostly there are none, and nothing is to be scanned
+        if bytes.is_empty() {
+            return Ok(waiting);
+        }
         waiting.extend(bytes)?;
         Ok(waiting)
     }

@@ -1,4 +1,4 @@
-use Rattle.std.proofs.Common.{◌≡◌, IsTrue, nat_eq, length, [], ◌∙◌, rules}
+use Rattle.std.proofs.Common.{IsTrue, nat_eq, length, [], ◌∙◌, rules}
 use Rattle.mux_segment.specs.Steps.{segment_with}
 use Rattle.local_clients.proofs.PassedOver.{passes_on, passes_smaller, none_left, passes_whole, passes_rest}
 use Rattle.local_clients.proofs.stream.are_passed_over.Goals as goal

@@ -1,4 +1,4 @@
-use Rattle.std.proofs.Common.{◌≡◌, ◌<◌, Ok, arith, rules, subst}
+use Rattle.std.proofs.Common.{◌<◌, Ok, arith, rules, subst}
 use Rattle.line_run.specs.Meaning.{IsInterpreted}
 use Rattle.local_clients.specs.Clients.{ClientsState}
 use Rattle.local_clients.specs.Replay.{event_means}

@@ -1,4 +1,4 @@
-use Rattle.std.proofs.Common.{◌≡◌, IsTrue, nat_eq, length, [], Some, rules}
+use Rattle.std.proofs.Common.{◌≡◌, IsTrue, nat_eq, length, Some, rules}
 use Rattle.local_clients.specs.Clients.{client_at}
 use Rattle.local_clients.proofs.PassedOver.{none_left, nothing_comes}
 use Rattle.local_clients.proofs.table.Table.passes_over.Goals as goal
