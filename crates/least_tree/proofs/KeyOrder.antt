@@ -6,9 +6,6 @@ use Rattle.least_tree.specs.Numbers.{none}
 pub first_lower : (a b c d : ℕ) → b < 2 ^ 64 → a < c → key a b < key c d
 first_lower a b c d fits lower = omega (arith, fits, lower)
 
-pub second_lower : (a b d : ℕ) → b < d → key a b < key a d
-second_lower a b d lower = omega (arith, lower)
-
 pub second_is : (a b : ℕ) → b < 2 ^ 64 → key a b % 2 ^ 64 ≡ b
 second_is a b fits = omega (arith, fits)
 

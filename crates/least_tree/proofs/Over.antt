@@ -101,8 +101,16 @@ module _ {X : Type 0} (key_in : X → ℕ) where
       let count : length (insert (map key_in rows) place (key_in row)) + left ≡ length keys =
       omega (arith, length-insert (map key_in rows) place (key_in row), length-map rows key_in, room) in
       let rest : left ≡ length new - length (insert rows place row) =
-      omega (arith, ap length is, length-put_among keys place (key_in row), ap length (map-insert rows place row),
-      length-map (insert rows place row) key_in, length-insert (map key_in rows) place (key_in row), length-map rows key_in, room) in
+      omega (
+        arith,
+        ap length is,
+        length-put_among keys place (key_in row),
+        ap length (map-insert rows place row),
+        length-map (insert rows place row) key_in,
+        length-insert (map key_in rows) place (key_in row),
+        length-map rows key_in,
+        room,
+      ) in
       is
       ∙ (ap (λ l. take (length keys) (insert l place (key_in row))) (over ∙ ap (λ n. map key_in rows ++ replicate n none) more)
       ∙ (ap (take (length keys)) (insert-front (map key_in rows) (replicate (suc left) none) place (key_in row) (omega (arith, inside, length-map rows key_in)))
@@ -113,8 +121,13 @@ module _ {X : Type 0} (key_in : X → ℕ) where
 
   pub length-anew : (rows : List X) (keys : List ℕ) → keys ≡ with_room (map key_in rows) → length keys ≡ 2 * length rows + 16
   length-anew rows keys is =
-      omega (arith, ap length is, length-append (map key_in rows) (replicate (length (map key_in rows) + 16) none),
-      length-replicate (length (map key_in rows) + 16) none, length-map rows key_in)
+      omega (
+        arith,
+        ap length is,
+        length-append (map key_in rows) (replicate (length (map key_in rows) + 16) none),
+        length-replicate (length (map key_in rows) + 16) none,
+        length-map rows key_in,
+      )
 
   pub over-anew : (rows : List X) (keys : List ℕ) → keys ≡ with_room (map key_in rows) → IsOver rows keys
   over-anew rows keys is =

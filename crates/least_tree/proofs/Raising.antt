@@ -44,13 +44,6 @@ stayed nodes k some h others same j low inside = elim (cases_order j k) [
 pub all_above : (nodes : List ℕ) → AreOthers 0 nodes → IsTree nodes
 all_above nodes others j low inside = others j low inside (λ e. omega (arith, e, low))
 
--- a leaf changes
-pub all_but_above : (nodes : List ℕ) (leaf : ℕ) (w : ℕ) → length nodes ≤ 2 * leaf + 1 → IsTree nodes → AreOthers (leaf / 2) (set nodes leaf w)
-all_but_above nodes leaf w behind tree j low inside not_above =
-    let inside_too : 2 * j + 1 < length nodes = omega (arith, inside, length-set nodes leaf w) in
-    still nodes leaf j w (λ e. omega (arith, e, behind, inside_too)) (λ e. not_above (omega (arith, e))) (λ e. not_above (omega (arith, e)))
-    (tree j low inside_too)
-
 -- from a number on, all are in order
 abbrev pub AreFrom : ℕ → List ℕ → Type 0
 AreFrom from nodes = (k : ℕ) → from ≤ k → 1 ≤ k → 2 * k + 1 < length nodes → IsNode nodes k

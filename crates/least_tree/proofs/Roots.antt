@@ -5,12 +5,6 @@ use Rattle.std.proofs.lemmas.List.{get_or-drop, length-drop}
 use Rattle.least_tree.specs.Nodes.{at, made, IsTree}
 use Rattle.least_tree.specs.Numbers.{none, least_of}
 
-min_left : (a b : ℕ) → min a b ≤ a
-min_left a b = omega arith
-
-min_right : (a b : ℕ) → min a b ≤ b
-min_right a b = omega arith
-
 min_over : (m a b : ℕ) → m ≤ a → m ≤ b → m ≤ min a b
 min_over m a b h k = omega (arith, h, k)
 

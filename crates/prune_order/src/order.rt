@@ -5,7 +5,7 @@ ghost use Rattle.accept_gate.specs.Prune.{choice_of};
 ghost use Rattle.prune_order.specs.Kept.{AreRising, AreOfWords, IsOver};
 ghost use Rattle.prune_order.specs.Leaves.{with_leaf};
 ghost use Rattle.timer_queue.specs.Timers.{same_cid};
-ghost use Rattle.prune_order.specs.Order.{candidates, stands, AreBelow, with_rank, without};
+ghost use Rattle.prune_order.specs.Order.{candidates, stands, with_rank, without};
 
 use crate::grow::{drop_gone, tree_over};
 use crate::leaf::{Leaf, Standing, cid_in, key_in, place_of, standing_by};

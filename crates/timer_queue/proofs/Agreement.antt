@@ -1,6 +1,6 @@
 -- The rows and the line agree: what that gives, and that it is kept by each change.
 use Rattle.std.proofs.Common.{◌≡◌, ℕ, ◌==◌, ◌&&◌, ◌||◌, Bool, true, false, not, cond, is_some, List, Some, None, refl, sym, ap, ◌∙◌, inl, inr}
-use Rattle.std.proofs.lemmas.Bool.{cases_Bool, and_parts, and_right, and_from, true≢false, false_from_ne_true}
+use Rattle.std.proofs.lemmas.Bool.{cases_Bool, and_parts, and_right, and_from, true≢false}
 use Rattle.net_base.specs.Timer.{deadline_before}
 use Rattle.net_base.specs.declared.connection.Cid.{Cid}
 use Rattle.net_base.specs.declared.timer.Deadline.{Deadline}
@@ -9,8 +9,8 @@ use Rattle.timer_queue.specs.Rows.{AreMomentsOf, IsMomentOf, row_at, moment, mom
 use Rattle.timer_queue.specs.Timers.{timer, same_cid, same_kind, same_timer, has_timer, IsInOrder, is_of, is_timer_of, without_kind, without_cid, put_in}
 use Rattle.timer_queue.specs.declared.rows.Row.{Row}
 use Rattle.timer_queue.proofs.Orders.{timer_order, cid_order, same_cid-is, same_kind-is, same_cid-turned, same_kind-turned, same_kind-itself}
-use Rattle.timer_queue.proofs.Lines.{IsInOrder-put_in, IsInOrder-filter}
-use Rattle.timer_queue.proofs.Rising.{any-put_in, put_in-between, has-filter, filter-all, rising_is_one}
+use Rattle.timer_queue.proofs.Lines.{IsInOrder-filter}
+use Rattle.timer_queue.proofs.Rising.{any-put_in, put_in-between, has-filter}
 use Rattle.timer_queue.proofs.RowEdits.{moment_at-with_row, moment_at-with_new_row, moment_at-emptied, none_of}
 
 abbrev pub Agree : List Row → List Deadline → Type 0
@@ -50,12 +50,6 @@ its : (cid : Cid) (kind : Kind) → (same_cid cid cid && same_kind kind kind) �
 its cid kind = and_from (same_cid cid cid) (same_kind kind kind) (cid_order.same_itself cid) (same_kind-itself kind)
 
 -- ---- clearing
-
--- nothing is cleared where nothing is set
-pub without_kind-unset : (cid : Cid) (kind : Kind) (line : List Deadline) → IsMomentOf cid kind None line → without_kind cid kind line ≡ line
-without_kind-unset cid kind line told =
-    filter-all deadline_before same_timer timer_order (λ d. not (is_timer_of cid kind d)) line (λ d there.
-    ap not (false_from_ne_true (is_timer_of cid kind d) (λ of_it. true≢false (sym there ∙ told d of_it))))
 
 pub cleared : (cid : Cid) (kind : Kind) (at : ℕ) (line : List Deadline) → has_timer (timer cid kind at) (without_kind cid kind line) ≡ false
 cleared cid kind at line =
@@ -119,20 +113,6 @@ Agree-set row kind at rows line found rises agree d =
     inside : (b : Bool) → cond b (at == d.at) (is_set_at d.at (moment_at d.cid d.kind rows)) ≡ is_set_at d.at (cond b (Some at) (moment_at d.cid d.kind rows))
     inside true = refl
     inside false = refl
-
--- a timer that is set anew to its own moment changes nothing
-pub put_in-again : (cid : Cid) (kind : Kind) (at : ℕ) (line : List Deadline) → IsInOrder line → IsMomentOf cid kind (Some at) line →
-    put_in (timer cid kind at) (without_kind cid kind line) ≡ line
-put_in-again cid kind at line rises told =
-    rising_is_one deadline_before same_timer timer_order _ line
-    (IsInOrder-put_in (timer cid kind at) (without_kind cid kind line) (IsInOrder-filter _ line rises) (cleared cid kind at line)) rises
-    (λ d. has-set cid kind at line d rises ∙ same d)
-  where
-    same : (d : Deadline) → cond (is_timer_of cid kind d) (at == d.at) (has_timer d line) ≡ has_timer d line
-    same d = elim (cases_Bool (is_timer_of cid kind d)) [
-      | inl of_it ↦ rw of_it (sym (told d of_it))
-      | inr other ↦ rw other refl
-    ]
 
 -- ---- a connection comes or goes
 

@@ -3,7 +3,6 @@ use Rattle.std.proofs.Common.{◌≡◌, ℕ, ◌+◌, ◌-◌, ◌<◌, ◌&&�
 use Rattle.std.specs.List.{insert, list_any}
 use Rattle.std.specs.Bool.{then_some}
 use Rattle.std.proofs.lemmas.Bool.{cases_Bool, false≢true}
-use Rattle.std.proofs.lemmas.List.{length-map}
 use Rattle.std.proofs.lemmas.Option.{get_or_from_slice_get}
 use Rattle.net_base.specs.declared.connection.Cid.{Cid}
 use Rattle.net_base.specs.declared.timer.Kind.{Kind}
@@ -108,9 +107,6 @@ pub AreRising-with_new_row : (new : Row) (rows : List Row) → AreRising rows �
 AreRising-with_new_row new rows rises absent =
     IsRising-put_in cid_below same_cid cid_order cid_of new rows rises
     (sym (any-find cid_below same_cid cid_order cid_of new.cid rows) ∙ ap is_some absent)
-
-pub length-with_row : (new : Row) (rows : List Row) → length (with_row new rows) ≡ length rows
-length-with_row new rows = length-map rows _
 
 pub length-with_new_row : (new : Row) (rows : List Row) → length (with_new_row new rows) ≡ length rows + 1
 length-with_new_row new rows = length-put_in cid_below same_cid cid_order cid_of new rows ∙ omega arith
