@@ -1,5 +1,3 @@
-pub mod CountedLinks
-pub mod LinkEdits
 pub mod LinkedTurns
 pub mod Reading
 mod Retimed

@@ -24,10 +24,12 @@ use Rattle.timer_queue.specs.Queue.{Queue}
 use Rattle.timer_queue.specs.Timers.{same_cid, cid_below}
 use Rattle.timer_queue.proofs.Orders.{cid_order}
 use Rattle.timer_queue.proofs.Rising.{find-replaced}
-use Rattle.connections.specs.Linked.{links_in, place_of, stands_at, HaveSameLinks, with_new, with_link, without_link, IsLinked, IsLinkedWith, IsLinkedBut, IsLinkedIf}
+use Rattle.links.specs.Link.{place_of}
+use Rattle.links.specs.Rows.{stands_at, HaveSameLinks, with_new, with_link, without_link}
+use Rattle.links.proofs.LinkEdits.{any-new, same-with_link, same-without_link, left_again}
+use Rattle.connections.specs.Linked.{links_in, IsLinked, IsLinkedWith, IsLinkedBut, IsLinkedIf}
 use Rattle.connections.specs.Standing.{Standing, entry_with, turned, come, gone, Turns}
 use Rattle.connections.specs.Timed.{ids_in, IsTimed}
-use Rattle.connections.proofs.LinkEdits.{any-new, same-with_link, same-without_link, left_again}
 use Rattle.connections.proofs.TimedTurns.{id_of, turned_in, others_in, stands_as, own_id, found_one, if_found, stands_in, some_of}
 
 abbrev links_of : List Entry → List Link

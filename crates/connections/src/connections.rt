@@ -11,9 +11,9 @@ mod overview;
 mod talking;
 
 use crate::kept::Kept;
-use crate::linked::Links;
 use chunked_list::ChunkedList;
 use conn_table::Roster;
+use links::Links;
 use net_base::{Addr, Cid, Facts, Settings};
 use prune_order::PruneOrder;
 use std::alloc::Global;

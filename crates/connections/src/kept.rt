@@ -11,8 +11,7 @@ ghost use Rattle.machine.specs.Govern.{link_of};
 ghost use Rattle.connections.specs.Timed.{IsTimed, IsTimedBut};
 ghost use Rattle.prune_order.specs.Order.{stands};
 
-use crate::link::{is_same, link_of};
-use crate::linked::Links;
+use crate::link::link_of;
 use crate::talk::Talk;
 use crate::timed::retime;
 use accept_gate::rank;
@@ -20,6 +19,7 @@ use chunked_list::ChunkedList;
 use conn_state::ConnState;
 use conn_table::Roster;
 use govern_rules::Link;
+use links::{Links, is_same};
 use net_base::{Cid, Facts, OutOfMemory, Settings};
 use prune_order::PruneOrder;
 use std::alloc::Global;

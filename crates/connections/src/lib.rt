@@ -5,8 +5,6 @@ mod connections;
 mod decoded;
 mod kept;
 mod link;
-mod link_row;
-mod linked;
 mod replies;
 mod reply;
 mod talk;

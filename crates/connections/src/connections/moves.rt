@@ -5,21 +5,21 @@ ghost use Rattle.conn_state.specs.Use.{live_at};
 ghost use Rattle.conn_table.specs.Answers.{any_at};
 ghost use Rattle.conn_table.specs.Conditions.{CanStep};
 ghost use Rattle.timer_queue.specs.Queue.{IsOrderly, with_enrolled};
-ghost use Rattle.connections.specs.Linked.{place_of, stands_at, with_new};
+ghost use Rattle.links.specs.Link.{place_of};
+ghost use Rattle.links.specs.Rows.{stands_at, with_new};
 ghost use Rattle.connections.specs.Standing.{entry_with, live_entry, facts_in, come, gone, Turns};
 ghost use Rattle.connections.specs.Steps.{closes, stepped};
 
 use super::Connections;
 use crate::kept::rerank;
 use crate::link::link_of;
-use crate::link_row::place_of;
-use crate::linked::Links;
 use crate::replies::Replies;
 use crate::talk::unread_at;
 use crate::timed::retime;
 use conn_state::{ConnState, ReservedOutbound, Unnegotiated};
 use conn_table::{Placed, Step};
 use govern_rules::Link;
+use links::{Links, place_of};
 use net_base::{Addr, Cid, Facts, OutOfMemory};
 use timer_queue::TimerQueue;
 

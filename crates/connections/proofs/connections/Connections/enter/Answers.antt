@@ -13,11 +13,13 @@ use Rattle.net_base.specs.declared.connection.Cid.{Cid}
 use Rattle.net_base.specs.declared.connection.Facts.{Facts}
 use Rattle.timer_queue.specs.Queue.{with_enrolled}
 use Rattle.timer_queue.specs.Timers.{cid_below, HaveSame, without_cid}
+use Rattle.links.specs.Link.{place_of}
+use Rattle.links.specs.Rows.{stands_at, without_link}
+use Rattle.links.proofs.LinkEdits.{stands-new}
 use Rattle.connections.specs.Kept.{standing}
-use Rattle.connections.specs.Linked.{IsLinked, place_of, stands_at, without_link}
+use Rattle.connections.specs.Linked.{IsLinked}
 use Rattle.connections.specs.Standing.{Standing, facts_in, come}
 use Rattle.connections.specs.Timed.{IsTimed, ids_in}
-use Rattle.connections.proofs.LinkEdits.{stands-new}
 use Rattle.connections.proofs.LinkedTurns.{no_link, come_linked, left_linked, found_last}
 use Rattle.connections.proofs.Stepping.{all_entered, facts_are}
 use Rattle.connections.proofs.TimedTurns.{come_but, left_again, timed_again, has_room}

@@ -1,8 +1,9 @@
 use Rattle.std.proofs.Common.{ap, ◌∙◌}
 use Rattle.conn_table.specs.declared.placed.Placed.{Placed}
 use Rattle.timer_queue.proofs.Outcomes.{on_err}
-use Rattle.connections.specs.Linked.{place_of, stands_at, without_link}
-use Rattle.connections.proofs.LinkEdits.{stands-new, left_again}
+use Rattle.links.specs.Link.{place_of}
+use Rattle.links.specs.Rows.{stands_at, without_link}
+use Rattle.links.proofs.LinkEdits.{stands-new, left_again}
 use Rattle.connections.proofs.connections.moves.enroll.Goals as goal
 
 pub leave-requires : goal.leave-requires

@@ -8,11 +8,11 @@ use Rattle.net_base.specs.declared.connection.Facts.{Facts}
 use Rattle.timer_queue.specs.Queue.{is_enrolled}
 use Rattle.timer_queue.specs.Timers.{HaveSame, without_cid}
 use Rattle.conn_table.specs.Rosters.{facts_kept}
+use Rattle.links.proofs.LinkEdits.{same_link-is}
 use Rattle.connections.specs.Kept.{standing}
 use Rattle.connections.specs.Timed.{IsTimed}
 use Rattle.connections.specs.Talks.{entry_of, entries_of}
 use Rattle.connections.specs.declared.talk.Talk.{Talk}
-use Rattle.connections.proofs.LinkEdits.{same_link-is}
 use Rattle.connections.proofs.LinkedTurns.{has_link, linked_again, linked_still}
 use Rattle.connections.proofs.Reading.{Read, read, placed_facts, placed_talk, seen}
 use Rattle.connections.proofs.TimedTurns.{own_id, has_room, timed_again}

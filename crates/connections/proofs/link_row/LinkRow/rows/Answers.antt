@@ -1,7 +1,0 @@
-use Rattle.std.proofs.Common.{subst}
-use Rattle.govern_rules.specs.SortedLinks.{IsInOrder}
-use Rattle.connections.proofs.CountedLinks.{in_order_too}
-use Rattle.connections.proofs.link_row.LinkRow.rows.Goals as goal
-
-pub returns-clause-ordered : goal.returns-clause-ordered
-returns-clause-ordered c = subst IsInOrder c.self.view_is (in_order_too c.self.inside.rows c.self.invariant)

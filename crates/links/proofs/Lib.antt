@@ -1,0 +1,2 @@
+mod CountedLinks
+pub mod LinkEdits

@@ -1,0 +1,9 @@
+//! What the rules see of each connection, in order of address and then id.
+#![tactic(auto)]
+
+mod link;
+mod link_row;
+mod linked;
+
+pub use link::{is_same, place_of};
+pub use linked::Links;
