@@ -6,9 +6,37 @@ use toml::{Table, Value};
 
 const DAY: u64 = 86_400_000;
 
-const NAMES: &str = "name role count within hidden public tick holds root known established active \
-    friends friends_of friends_hot friends_warm friends_told hard soft delay idle timewait handshake \
-    reply backoff sharegap shares sharing initiatoronly";
+const NAMES: &[&str] = &[
+    "name",
+    "role",
+    "count",
+    "within",
+    "hidden",
+    "public",
+    "tick",
+    "holds",
+    "root",
+    "known",
+    "established",
+    "active",
+    "friends",
+    "friends_of",
+    "friends_hot",
+    "friends_warm",
+    "friends_told",
+    "hard",
+    "soft",
+    "delay",
+    "idle",
+    "timewait",
+    "handshake",
+    "reply",
+    "backoff",
+    "sharegap",
+    "shares",
+    "sharing",
+    "initiatoronly",
+];
 
 const NODES_MOST: u64 = 100_000;
 
@@ -67,6 +95,18 @@ fn keep(kinds: &mut Vec<Kind>, kind: Kind) -> Result<(), OutOfMemory> {
     Ok(())
 }
 
+// What the nodes of a kind do, and how many they are.
+#[derive(Clone, Copy)]
+struct Habits {
+    role: Role,
+    count: u64,
+    within: u64,
+    hidden: bool,
+    public: u64,
+    tick: u64,
+    holds: u64,
+}
+
 fn read_kind(alloc: Global, value: &Value, all: &[Value]) -> Result<Kind, ScenarioRefusal> {
     let table = as_table(value, "kind", NAMES)?;
     let Some(name) = text_at(table, "name") else {
@@ -75,15 +115,29 @@ fn read_kind(alloc: Global, value: &Value, all: &[Value]) -> Result<Kind, Scenar
     let settings = read_settings(table)?;
     let targets = read_targets(table)?;
     let friends = read_friends(table, all)?;
+    let habits = read_habits(table)?;
+    Ok(Kind {
+        name: owned(alloc, name)?,
+        role: habits.role,
+        count: habits.count,
+        within: habits.within,
+        hidden: habits.hidden,
+        public: habits.public,
+        tick: habits.tick,
+        holds: habits.holds,
+        settings,
+        targets,
+        friends,
+    })
+}
+
+fn read_habits(table: &Table) -> Result<Habits, ScenarioRefusal> {
     let count = number(Some(table), &COUNT, None)?;
     let role = read_role(table)?;
     let within = number(Some(table), &WITHIN, Some(10_000))?;
     let hidden = flag(table, "hidden", false)?;
     let [public, tick, holds] = numbers(Some(table), &HABITS, [0, 1_000, 0])?;
-    // The name comes last, so that nothing is owned where a number is refused.
-    let name = owned(alloc, name)?;
-    Ok(Kind {
-        name,
+    Ok(Habits {
         role,
         count,
         within,
@@ -91,9 +145,6 @@ fn read_kind(alloc: Global, value: &Value, all: &[Value]) -> Result<Kind, Scenar
         public,
         tick,
         holds,
-        settings,
-        targets,
-        friends,
     })
 }
 

@@ -1,5 +1,5 @@
 use crate::kind_table::kind_named;
-use crate::values::{Row, as_table, number, share};
+use crate::values::{Row, as_table, number, share, tables_at};
 use crate::{Apart, Due, Leaving, Parting, ScenarioRefusal};
 use net_base::OutOfMemory;
 use toml::{Table, Value};
@@ -9,21 +9,21 @@ const SECOND: u64 = 1_000;
 const NOTICE: Row = Row("notice", 1, 600_000);
 
 pub(crate) fn read_partings(
-    values: &[Value],
+    table: &Table,
     kinds: &[Value],
     partings: &mut Vec<Parting>,
 ) -> Result<(), ScenarioRefusal> {
-    for value in values {
+    for value in tables_at(table, "parting")? {
         keep(partings, read_parting(value, kinds)?)?;
     }
     Ok(())
 }
 
 pub(crate) fn read_leavings(
-    values: &[Value],
+    table: &Table,
     leavings: &mut Vec<Leaving>,
 ) -> Result<(), ScenarioRefusal> {
-    for value in values {
+    for value in tables_at(table, "leaving")? {
         keep(leavings, read_leaving(value)?)?;
     }
     Ok(())
@@ -35,12 +35,12 @@ fn keep<T: Drop>(list: &mut Vec<T>, item: T) -> Result<(), OutOfMemory> {
 }
 
 fn read_parting(value: &Value, kinds: &[Value]) -> Result<Parting, ScenarioRefusal> {
-    let table = as_table(value, "parting", "from to share apart notice")?;
-    let from = moment(table, "from")?;
-    let to = moment(table, "to")?;
-    if to < from {
-        return Err(ScenarioRefusal::Wrong("to", Due::NotBelow("from")));
-    }
+    let table = as_table(
+        value,
+        "parting",
+        &["from", "to", "share", "apart", "notice"],
+    )?;
+    let (from, to) = read_span(table)?;
     let apart = read_apart(table, kinds)?;
     let notice = number(Some(table), &NOTICE, Some(20_000))?;
     Ok(Parting {
@@ -49,6 +49,15 @@ fn read_parting(value: &Value, kinds: &[Value]) -> Result<Parting, ScenarioRefus
         apart,
         notice,
     })
+}
+
+fn read_span(table: &Table) -> Result<(u64, u64), ScenarioRefusal> {
+    let from = moment(table, "from")?;
+    let to = moment(table, "to")?;
+    if to < from {
+        return Err(ScenarioRefusal::Wrong("to", Due::NotBelow("from")));
+    }
+    Ok((from, to))
 }
 
 fn read_apart(table: &Table, kinds: &[Value]) -> Result<Apart, ScenarioRefusal> {
@@ -60,7 +69,7 @@ fn read_apart(table: &Table, kinds: &[Value]) -> Result<Apart, ScenarioRefusal> 
 }
 
 fn read_leaving(value: &Value) -> Result<Leaving, ScenarioRefusal> {
-    let table = as_table(value, "leaving", "at share back")?;
+    let table = as_table(value, "leaving", &["at", "share", "back"])?;
     let at = moment(table, "at")?;
     let share = share(Some(table), "share", 333)?;
     let back = read_back(table)?;

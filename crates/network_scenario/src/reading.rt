@@ -1,6 +1,6 @@
 use crate::kind_table::read_kinds;
 use crate::mishap_tables::{read_leavings, read_partings};
-use crate::values::{Row, as_table, check_names, number, numbers, share, tables_at, text_at};
+use crate::values::{Row, as_table, check_names, number, numbers, tables_at, text_at};
 use crate::{Due, Links, Provider, Scenario, ScenarioRefusal, Words};
 use std::alloc::Global;
 use toml::Table;
@@ -10,20 +10,34 @@ const MINUTE: u64 = 60_000;
 
 const DAY: u64 = 86_400_000;
 
-const NAMES: &str = "seconds words links roots kind parting leaving";
+const NAMES: &[&str] = &[
+    "seconds", "words", "links", "roots", "kind", "parting", "leaving",
+];
 
 const SECONDS: Row = Row("seconds", 1, 86_400);
 
-const LINK_NAMES: &str = "latency_least latency_most lost late again cut wait";
+const LINK_NAMES: &[&str] = &[
+    "latency_least",
+    "latency_most",
+    "lost",
+    "late",
+    "again",
+    "cut",
+    "wait",
+];
 
 const LATENCIES: [Row; 2] = [
     Row("latency_least", 1, MINUTE),
     Row("latency_most", 1, MINUTE),
 ];
 
-const AGAIN: Row = Row("again", 1, MINUTE);
-
-const WAIT: Row = Row("wait", 1, MINUTE);
+const DELAYS: [Row; 5] = [
+    Row("lost", 0, 1_000),
+    Row("late", 0, 1_000),
+    Row("again", 1, MINUTE),
+    Row("cut", 0, 1_000),
+    Row("wait", 1, MINUTE),
+];
 
 const ROOTS: [Row; 2] = [Row("told", 0, 10_000), Row("serves", 1, DAY)];
 
@@ -39,11 +53,18 @@ pub fn read_scenario(alloc: Global, bytes: &[u8]) -> Result<Scenario, ScenarioRe
 
 fn read_table(alloc: Global, table: &Table) -> Result<Scenario, ScenarioRefusal> {
     check_names(table, "the file", NAMES)?;
+    let mut scenario = read_alone(alloc, table)?;
+    read_lists(alloc, table, &mut scenario)?;
+    Ok(scenario)
+}
+
+// What stands once in a file. The lists are empty.
+fn read_alone(alloc: Global, table: &Table) -> Result<Scenario, ScenarioRefusal> {
     let seconds = number(Some(table), &SECONDS, None)?;
     let words = read_words(table)?;
     let links = read_links(table)?;
     let provider = read_provider(table)?;
-    let mut scenario = Scenario {
+    Ok(Scenario {
         seconds,
         words,
         links,
@@ -51,9 +72,7 @@ fn read_table(alloc: Global, table: &Table) -> Result<Scenario, ScenarioRefusal>
         kinds: Vec::new(alloc),
         partings: Vec::new(alloc),
         leavings: Vec::new(alloc),
-    };
-    read_lists(alloc, table, &mut scenario)?;
-    Ok(scenario)
+    })
 }
 
 fn read_lists(
@@ -63,10 +82,8 @@ fn read_lists(
 ) -> Result<(), ScenarioRefusal> {
     let kinds = tables_at(table, "kind")?;
     read_kinds(alloc, kinds, &mut scenario.kinds)?;
-    let partings = tables_at(table, "parting")?;
-    read_partings(partings, kinds, &mut scenario.partings)?;
-    let leavings = tables_at(table, "leaving")?;
-    read_leavings(leavings, &mut scenario.leavings)
+    read_partings(table, kinds, &mut scenario.partings)?;
+    read_leavings(table, &mut scenario.leavings)
 }
 
 fn read_words(table: &Table) -> Result<Words, ScenarioRefusal> {
@@ -86,19 +103,20 @@ fn read_links(table: &Table) -> Result<Links, ScenarioRefusal> {
     if latency_most < latency_least {
         return Err(ScenarioRefusal::Wrong("latency_most", Due::NotBelow("latency_least")));
     }
+    let [lost, late, again, cut, wait] = numbers(table, &DELAYS, [0, 0, 300, 0, 3_000])?;
     Ok(Links {
         latency_least,
         latency_most,
-        lost: share(table, "lost", 0)?,
-        late: share(table, "late", 0)?,
-        again: number(table, &AGAIN, Some(300))?,
-        cut: share(table, "cut", 0)?,
-        wait: number(table, &WAIT, Some(3_000))?,
+        lost,
+        late,
+        again,
+        cut,
+        wait,
     })
 }
 
 fn read_provider(table: &Table) -> Result<Provider, ScenarioRefusal> {
-    let table = table_at(table, "roots", "told serves")?;
+    let table = table_at(table, "roots", &["told", "serves"])?;
     let [told, serves] = numbers(table, &ROOTS, [20, 3_600_000])?;
     Ok(Provider { told, serves })
 }
@@ -107,7 +125,7 @@ fn read_provider(table: &Table) -> Result<Provider, ScenarioRefusal> {
 fn table_at<'a>(
     table: &'a Table,
     name: &'static str,
-    names: &str,
+    names: &[&str],
 ) -> Result<Option<&'a Table>, ScenarioRefusal> {
     match table.get(name) {
         Some(value) => Ok(Some(as_table(value, name, names)?)),

@@ -107,7 +107,7 @@ pub(crate) fn tables_at<'a>(
 pub(crate) fn as_table<'a>(
     value: &'a Value,
     name: &'static str,
-    names: &str,
+    names: &[&str],
 ) -> Result<&'a Table, ScenarioRefusal> {
     let Some(table) = value.as_table() else {
         return Err(ScenarioRefusal::Wrong(name, Due::Said("a table")));
@@ -116,11 +116,11 @@ pub(crate) fn as_table<'a>(
     Ok(table)
 }
 
-/// A table has no other names than these, which have a space between two.
+/// A table has no other names than these.
 pub(crate) fn check_names(
     table: &Table,
     of: &'static str,
-    names: &str,
+    names: &[&str],
 ) -> Result<(), ScenarioRefusal> {
     for key in table.keys() {
         if !is_among(key.as_str(), names) {
@@ -131,9 +131,9 @@ pub(crate) fn check_names(
     Ok(())
 }
 
-fn is_among(key: &str, names: &str) -> bool {
-    for name in names.split(' ') {
-        if name == key {
+fn is_among(key: &str, names: &[&str]) -> bool {
+    for name in names {
+        if *name == key {
             return true;
         }
     }
