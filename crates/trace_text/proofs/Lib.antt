@@ -5,11 +5,13 @@ pub mod Binds
 pub mod Cutting
 pub mod Digits
 pub mod EventLines
+mod FewDigits
 pub mod GroupLaws
 pub mod GroupLists
 pub mod Groups
 pub mod HeadLaws
 pub mod HexPieces
+mod InTurn
 pub mod Ips
 pub mod LineLaws
 pub mod Lists
