@@ -1,9 +1,8 @@
 -- An IPv4 address that is read from the left is what its grammar has.
-use Rattle.std.proofs.Common.{◌≡◌, ◌≢◌, ℕ, zero, suc, ◌+◌, ◌/◌, ◌%◌, ◌^◌, ◌<◌, ◌≤◌, Bool, true, false, eqb, List, [], ◌∷◌, ◌++◌, length, map, get_or, take, drop, Option, Some, None, decimal, refl, sym, ap, subst, ◌∙◌, arith, lit<, inl, inr, append_assoc}
-use Rattle.std.specs.Prelude.{◌↔◌, IsTrue}
+use Rattle.std.proofs.Common.{◌≡◌, ◌≢◌, ℕ, zero, suc, ◌+◌, ◌/◌, ◌%◌, ◌^◌, ◌<◌, ◌≤◌, false, eqb, List, [], ◌∷◌, ◌++◌, length, map, get_or, take, drop, Option, Some, None, decimal, refl, sym, ap, subst, ◌∙◌, arith, lit<, inl, inr, append_assoc}
 use Rattle.std.specs.List.{All, join_with_byte}
 use Rattle.std.specs.Int.Digits.{number_from_digits, AllBelowBase}
-use Rattle.std.proofs.lemmas.Bool.{false≢true, cases_eq, eq-eqb, ne_eqb}
+use Rattle.std.proofs.lemmas.Bool.{cases_eq, eq-eqb, ne_eqb}
 use Rattle.std.proofs.lemmas.Fmt.{decimal_nonempty, length-decimal-le}
 use Rattle.std.proofs.lemmas.List.{length-append, get_or_at}
 use Rattle.std.proofs.lemmas.Int.Digits.{number_lt}
@@ -12,7 +11,7 @@ use Rattle.net_base.specs.Number.{is_digit, number_up_to}
 use Rattle.net_base.specs.declared.address.Ip.TheVariants.{V4}
 use Rattle.net_base.specs.declared.address.Addr.{Addr}
 use Rattle.trace_text.specs.Addresses.{◌>>=◌, ipv4_address_of, port_of, low_digits, printed_octets}
-use Rattle.trace_text.specs.InTurn.{octet_before, octet_up_to, StandsAt, ipv4_in_turn}
+use Rattle.trace_text.specs.InTurn.{octet_before, octet_up_to, ipv4_in_turn}
 use Rattle.trace_text.specs.Words.{cut_at}
 use Rattle.trace_text.proofs.AddressLaws.{ipv4_parts, ipv4_again, port_again}
 use Rattle.trace_text.proofs.Cutting.{cut_at-Some, cut_at-append, cut_at-place}
@@ -54,6 +53,10 @@ octet_only s text read e =
 
 -- ---- an octet by its place
 
+-- a byte stands at a place
+abbrev StandsAt : ℕ → ℕ → List ℕ → Type 0
+StandsAt place byte text = (place < length text) × (get_or text place 0 ≡ byte)
+
 front_none : (s i : ℕ) (text : List ℕ) → is_digit s ≡ false → 0 < length text → get_or text 0 0 ≡ s → 0 < i → number_up_to 255 (take i text) ≡ None
 front_none s zero text other some first h = absurd (omega arith)
 front_none s (suc i) [] other some first h = absurd (omega arith)
@@ -94,10 +97,6 @@ octet_end s text n rest h =
       length-decimal-le 3 n (omega arith) (omega arith) (omega arith),
       (omega arith, ap (λ (xs : List ℕ). get_or xs (length (decimal n)) 0) h.whole ∙ get_or_at (decimal n) s rest 0 (length (decimal n)) refl),
     )
-
--- what a test tells where it is false
-pub not_there : {b : Bool} {P : Type 0} → (IsTrue b ↔ P) → b ≡ false → P → ⊥
-not_there tells untrue p = false≢true (sym untrue ∙ tells.1 p)
 
 pub before_two : (s : ℕ) (text : List ℕ) → (StandsAt 1 s text → ⊥) → (k : ℕ) → 0 < k → k < 2 → StandsAt k s text → ⊥
 before_two s text one zero some few = absurd (omega arith)

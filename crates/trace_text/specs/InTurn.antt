@@ -1,5 +1,5 @@
 -- An IPv4 address, read from the left.
-use Rattle.std.specs.Prelude.{ℕ, ◌≡◌, ◌+◌, ◌<◌, List, [], ◌∷◌, length, get_or, take, drop, Option, Some}
+use Rattle.std.specs.Prelude.{ℕ, ◌+◌, List, [], ◌∷◌, take, drop, Option, Some}
 use Rattle.std.specs.Int.Digits.{number_from_digits}
 use Rattle.net_base.specs.Number.{number_up_to}
 use Rattle.net_base.specs.declared.address.Ip.TheVariants.{V4}
@@ -19,10 +19,6 @@ abbrev pub octet_up_to : ℕ → List ℕ → Option (ℕ × List ℕ)
 octet_up_to end text = do
   octet ← number_up_to 255 (take end text)
   Some (octet, drop (end + 1) text)
-
--- a byte stands at a place
-abbrev pub StandsAt : ℕ → ℕ → List ℕ → Type 0
-StandsAt place byte text = (place < length text) × (get_or text place 0 ≡ byte)
 
 -- three octets that a dot ends, one that a colon ends, and a port
 abbrev pub ipv4_in_turn : List ℕ → Option Addr

@@ -1,8 +1,8 @@
-ghost use Rattle.std.specs.Prelude.{◌≡◌, ◌↔◌, ◌<◌, ◌≤◌, length, IfSome, IsTrue, false};
+ghost use Rattle.std.specs.Prelude.{◌≡◌, ◌<◌, ◌≤◌, length, IfSome, false};
 ghost use Rattle.std.specs.Option.{option_map};
 ghost use Rattle.net_base.specs.Number.{is_digit};
 ghost use Rattle.trace_text.specs.Addresses.{address_of, ipv4_address_of, ipv6_address_of, groups_of, port_of, port_after, group_of, hex_digit, number_read};
-ghost use Rattle.trace_text.specs.InTurn.{ipv4_in_turn, octet_before, octet_up_to, StandsAt};
+ghost use Rattle.trace_text.specs.InTurn.{ipv4_in_turn, octet_before, octet_up_to};
 
 use crate::decimal::read_decimal;
 use crate::pieces::{Pieces, cut_once};
@@ -42,21 +42,12 @@ fn octet_before(separator: u8, text: &[u8]) -> Option<(u8, &[u8])>
     requires { is_digit separator ≡ false }
     ensures { option_map (λ read. (read.0, read.1.now)) result ≡ octet_before separator text.now }
 {
-    if stands_at(1, separator, text) {
-        octet_up_to(1, text)
-    } else if stands_at(2, separator, text) {
-        octet_up_to(2, text)
-    } else if stands_at(3, separator, text) {
-        octet_up_to(3, text)
-    } else {
-        None
+    match text {
+        [_, end, ..] if *end == separator => octet_up_to(1, text),
+        [_, _, end, ..] if *end == separator => octet_up_to(2, text),
+        [_, _, _, end, ..] if *end == separator => octet_up_to(3, text),
+        _ => None,
     }
-}
-
-fn stands_at(place: usize, byte: u8, text: &[u8]) -> bool
-    ensures { IsTrue result ↔ StandsAt place byte text.now }
-{
-    place < text.len() && text[place] == byte
 }
 
 #[inline(always)]

@@ -1,27 +1,30 @@
 use Rattle.std.proofs.Common.{◌∙◌, sym, arith}
-use Rattle.trace_text.proofs.InTurn.{octet_at, octet_none, not_there, before_two, before_three}
+use Rattle.std.proofs.lemmas.Bool.Decides.{nat_tests}
+use Rattle.trace_text.proofs.InTurn.{octet_at, octet_none, before_two, before_three}
 use Rattle.trace_text.proofs.address.octet_before.Goals as goal
+use Rattle.trace_text.proofs.address.octet_before.Goals.{in_default-via-then-text-lt2, in_default-via-in-len2-up+else-end-separator+then-text-lt3, in_default-via-in-len3-up+else-end-separator-2+then-text-lt4, in_default-via-in-len4-up+else-end-separator-3}
 
-pub returns-then-stands_at-2 : goal.returns-then-stands_at-2
-returns-then-stands_at-2 c =
+pub returns-in-len3-up : goal.returns-in-len3-up
+returns-in-len3-up c =
     let s = c.args.separator in
     let text = c.args.text.now in
-    let one = not_there c.stands_at.ensures c.if-stands_at.false in
-    c.octet_up_to-then-stands_at-2.ensures
-    ∙ octet_at s 2 text c.requires (omega arith) (c.stands_at-else-stands_at.ensures.0 c.if-stands_at-2.true) (before_two s text one)
+    c.octet_up_to-in-len3-up.ensures
+    ∙ octet_at s 2 text c.requires (omega arith) (omega (arith, c.in-len3-up.len_at_least), c.if-end-separator-2.true) (before_two s text (λ h. c.if-end-separator.false h.1))
 
-pub returns-then-stands_at-3 : goal.returns-then-stands_at-3
-returns-then-stands_at-3 c =
+pub returns-in-len4-up : goal.returns-in-len4-up
+returns-in-len4-up c =
     let s = c.args.separator in
     let text = c.args.text.now in
-    let one = not_there c.stands_at.ensures c.if-stands_at.false in
-    let two = not_there c.stands_at-else-stands_at.ensures c.if-stands_at-2.false in
-    c.octet_up_to-then-stands_at-3.ensures
-    ∙ octet_at s 3 text c.requires (omega arith) (c.stands_at-else-stands_at-2.ensures.0 c.if-stands_at-3.true) (before_three s text one two)
+    c.octet_up_to-in-len4-up.ensures
+    ∙ octet_at s 3 text c.requires (omega arith) (omega (arith, c.in-len4-up.len_at_least), c.if-end-separator-3.true) (before_three s text (λ h. c.if-end-separator.false h.1) (λ h. c.if-end-separator-2.false h.1))
 
-pub returns-else-stands_at-3 : goal.returns-else-stands_at-3
-returns-else-stands_at-3 c =
-    let one = not_there c.stands_at.ensures c.if-stands_at.false in
-    let two = not_there c.stands_at-else-stands_at.ensures c.if-stands_at-2.false in
-    let three = not_there c.stands_at-else-stands_at-2.ensures c.if-stands_at-3.false in
-    sym (octet_none c.args.separator c.args.text.now one two three)
+pub returns-in_default : goal.returns-in_default
+returns-in_default c =
+    let s = c.args.separator in
+    let text = c.args.text.now in
+    elim c.in_default.branch [
+      | in_default-via-then-text-lt2 w ↦ sym (octet_none s text (λ h. absurd (let l = h.0 in grind (arith, nat_tests))) (λ h. absurd (let l = h.0 in grind (arith, nat_tests))) (λ h. absurd (let l = h.0 in grind (arith, nat_tests))))
+      | in_default-via-in-len2-up+else-end-separator+then-text-lt3 w ↦ sym (octet_none s text (λ h. w.if-end-separator.false h.1) (λ h. absurd (let l = h.0 in grind (arith, nat_tests))) (λ h. absurd (let l = h.0 in grind (arith, nat_tests))))
+      | in_default-via-in-len3-up+else-end-separator-2+then-text-lt4 w ↦ sym (octet_none s text (λ h. w.if-end-separator.false h.1) (λ h. w.if-end-separator-2.false h.1) (λ h. absurd (let l = h.0 in grind (arith, nat_tests))))
+      | in_default-via-in-len4-up+else-end-separator-3 w ↦ sym (octet_none s text (λ h. w.if-end-separator.false h.1) (λ h. w.if-end-separator-2.false h.1) (λ h. w.if-end-separator-3.false h.1))
+    ]
