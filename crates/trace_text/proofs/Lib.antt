@@ -5,7 +5,6 @@ pub mod Binds
 pub mod Cutting
 pub mod Digits
 pub mod EventLines
-mod FewDigits
 pub mod GroupLaws
 pub mod GroupLists
 pub mod Groups
