@@ -25,25 +25,36 @@ pub record Spells (version : ℕ) (word : List ℕ) (address : Addr) : Type 0 wh
 
 -- ---- what is read is printed
 
-ipv4_spells : (version : ℕ) (word host rest : List ℕ) (ip port : ℕ) → word ≡ host ++ 58 ∷ rest → octets_of host ≡ Some ip → port_of rest ≡ Some port
-    → Spells version word (record { ip = V4 ip; port = port })
-ipv4_spells version word host rest ip port whole octets digits =
-    let (text, fits) = reads_only 46 256 (number_up_to 255) decimal IsSpelling-octets 4 ip host octets in
-    let (number, small) = decimal-number_up_to 65535 rest port digits (lit< tt) in
+-- the parts of an IPv4 address that is read
+pub record IsIpv4 (word : List ℕ) (address : Addr) : Type 0 where
+  pub ip : ℕ
+  pub port : ℕ
+  pub printed : word ≡ printed_octets ip ++ 58 ∷ decimal port
+  pub fits : ip < 2 ^ 32
+  pub small : port < 2 ^ 16
+  pub same : ◌≡◌ {A = Addr} (record { ip = V4 ip; port = port }) address
+
+pub ipv4_parts : (word : List ℕ) (address : Addr) → ipv4_address_of word ≡ Some address → IsIpv4 word address
+ipv4_parts word address e =
+    let (parts, cut, e) = bind_some (cut_at 58 word) (λ parts. octets_of parts.0 >>= λ ip. port_of parts.1 >>= λ port. Some (record { ip = V4 ip; port = port })) address e in
+    let (ip, octets, e) = bind_some (octets_of parts.0) (λ ip. port_of parts.1 >>= λ port. Some (record { ip = V4 ip; port = port })) address e in
+    let (port, digits, e) = bind_some (port_of parts.1) (λ port. Some (record { ip = V4 ip; port = port })) address e in
+    let made : Addr = record { ip = V4 ip; port = port } in
+    let (text, fits) = reads_only 46 256 (number_up_to 255) decimal IsSpelling-octets 4 ip parts.0 octets in
+    let (number, small) = decimal-number_up_to 65535 parts.1 port digits (lit< tt) in
     record {
-      printed = whole ∙ ap (λ (text : List ℕ). text ++ 58 ∷ rest) text ∙ ap (λ (text : List ℕ). printed_octets ip ++ 58 ∷ text) number;
-      fits = record { ip = fits; port = omega (arith, small) };
-      family = refl;
+      ip = ip;
+      port = port;
+      printed = (cut_at-Some 58 word parts.0 parts.1 cut).whole ∙ ap (λ (text : List ℕ). text ++ 58 ∷ parts.1) text ∙ ap (λ (text : List ℕ). printed_octets ip ++ 58 ∷ text) number;
+      fits = fits;
+      small = omega (arith, small);
+      same = same_Some made address e;
     }
 
 ipv4_only : (version : ℕ) (word : List ℕ) (address : Addr) → ipv4_address_of word ≡ Some address → Spells version word address
 ipv4_only version word address e =
-    let p = bind_some (cut_at 58 word) (λ parts. octets_of parts.0 >>= λ ip. port_of parts.1 >>= λ port. Some (record { ip = V4 ip; port = port })) address e in
-    let q = bind_some (octets_of p.0.0) (λ ip. port_of p.0.1 >>= λ port. Some (record { ip = V4 ip; port = port })) address p.2 in
-    let r = bind_some (port_of p.0.1) (λ port. Some (record { ip = V4 q.0; port = port })) address q.2 in
-    let made : Addr = record { ip = V4 q.0; port = r.0 } in
-    subst (Spells version word) (same_Some made address r.2)
-    (ipv4_spells version word p.0.0 p.0.1 q.0 r.0 (cut_at-Some 58 word p.0.0 p.0.1 p.1).whole q.1 r.1)
+    let p = ipv4_parts word address e in
+    subst (Spells version word) p.same (record { printed = p.printed; fits = record { ip = p.fits; port = p.small }; family = refl })
 
 port_after_only : (rest : List ℕ) (port : ℕ) → port_after rest ≡ Some port → (rest ≡ 58 ∷ decimal port) × (port < 2 ^ 16)
 port_after_only [] port e = absurd cc
@@ -105,17 +116,21 @@ no_bracket version [] h = refl
 no_bracket version (c ∷ rest) h =
     cond-false (eqb version 2 && eqb c 91) (ipv6_address_of rest) (ipv4_address_of (c ∷ rest)) (and_right (eqb version 2) (eqb c 91) (ne_eqb c 91 h.0))
 
-port_again : (port : ℕ) → port < 2 ^ 16 → port_of (decimal port) ≡ Some port
+pub port_again : (port : ℕ) → port < 2 ^ 16 → port_of (decimal port) ≡ Some port
 port_again port fits = number_up_to-decimal 65535 port (omega arith) (lit< tt)
+
+pub ipv4_again : (ip port : ℕ) → ip < 2 ^ 32 → port < 2 ^ 16 → ipv4_address_of (printed_octets ip ++ 58 ∷ decimal port) ≡ Some (record { ip = V4 ip; port = port })
+ipv4_again ip port fits small =
+    ipv4_from (printed_octets ip ++ 58 ∷ decimal port) (printed_octets ip) (decimal port) ip port
+    (cut_at-append 58 (printed_octets ip) (decimal port) (tested_apart 58 (printed_octets ip) (octets_apart 58 ip (omega arith) (omega arith))))
+    (reads_again 46 256 (number_up_to 255) decimal IsSpelling-octets 3 ip (omega arith) fits)
+    (port_again port small)
 
 printed_again : (version : ℕ) (ip : Ip) (port : ℕ) → IsIp ip → port < 2 ^ 16 → knows_family version ip ≡ true → address_of version (printed_at ip port) ≡ Some (record { ip = ip; port = port })
 printed_again version (V4 ip) port fits small family =
     no_bracket version (printed_octets ip ++ 58 ∷ decimal port)
     (all_append (λ b. b ≢ 91) (printed_octets ip) (58 ∷ decimal port) (octets_apart 91 ip (omega arith) (omega arith)) (λ e. omega arith, digits_between 91 10 port (omega arith) (omega arith)))
-    ∙ ipv4_from (printed_octets ip ++ 58 ∷ decimal port) (printed_octets ip) (decimal port) ip port
-    (cut_at-append 58 (printed_octets ip) (decimal port) (tested_apart 58 (printed_octets ip) (octets_apart 58 ip (omega arith) (omega arith))))
-    (reads_again 46 256 (number_up_to 255) decimal IsSpelling-octets 3 ip (omega arith) fits)
-    (port_again port small)
+    ∙ ipv4_again ip port fits small
 printed_again version (V6 ip) port fits small family =
     let rest : List ℕ = printed_groups ip ++ 93 ∷ 58 ∷ decimal port in
     cond-true (eqb version 2 && true) (ipv6_address_of rest) (ipv4_address_of (91 ∷ rest)) (ap (λ (b : Bool). b && true) family)

@@ -1,5 +1,5 @@
 -- Cutting at the first separator, and at every one.
-use Rattle.std.proofs.Common.{◌≡◌, ℕ, ◌+◌, ◌<◌, ◌≤◌, false, eqb, List, [], ◌∷◌, ◌++◌, length, take, drop, Option, Some, None, refl, sym, ap, ◌∙◌, arith, inl, inr}
+use Rattle.std.proofs.Common.{◌≡◌, ℕ, ◌+◌, ◌<◌, ◌≤◌, true, false, eqb, List, [], ◌∷◌, ◌++◌, length, get_or, take, drop, Option, Some, None, refl, sym, ap, ◌∙◌, arith, inl, inr}
 use Rattle.std.specs.Prelude.{IsTrue, is_none}
 use Rattle.std.specs.Borrow.{Bor}
 use Rattle.std.specs.List.{All, AllByRecursion, join_with_byte, position_or_len, before_first, after_first}
@@ -58,6 +58,13 @@ none_left s (Some rest) = (λ h. absurd (false≢true h), λ e. absurd (pieces_o
 
 drop_past : (s : ℕ) (a b : List ℕ) → drop (length a + 1) (a ++ s ∷ b) ≡ b
 drop_past s a b = sym (drop-drop 1 (length a) (a ++ s ∷ b)) ∙ ap (drop 1) (drop_at a (s ∷ b) (length a) refl)
+
+-- the first separator stands at a place
+pub cut_at-place : (s : ℕ) (xs : List ℕ) (i : ℕ) → i < length xs → ((k : ℕ) → k < i → eqb (get_or xs k 0) s ≡ false) → eqb (get_or xs i 0) s ≡ true
+    → cut_at s xs ≡ Some (take i xs, drop (i + 1) xs)
+cut_at-place s xs i inside before here =
+    let at : position_or_len (λ c. eqb c s) xs ≡ i = position_or_len_is (λ c. eqb c s) xs i 0 (omega arith) before (λ h. here) in
+    cut_at-within s xs (omega arith) ∙ ap (λ (i : ℕ). Some (take i xs, drop (i + 1) xs)) at
 
 -- a separator behind bytes that are none
 pub cut_at-append : (s : ℕ) (a b : List ℕ) → All (λ c. eqb c s ≡ false) a → cut_at s (a ++ s ∷ b) ≡ Some (a, b)

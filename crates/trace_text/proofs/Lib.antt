@@ -10,6 +10,7 @@ pub mod GroupLists
 pub mod Groups
 pub mod HeadLaws
 pub mod HexPieces
+mod InTurn
 pub mod Ips
 pub mod LineLaws
 pub mod Lists

@@ -13,10 +13,10 @@ use Rattle.trace_text.proofs.Printed.{digits_apart, tested_apart}
 use Rattle.trace_text.proofs.Spelling.{IsSpelling, reads_again, reads_only, spelled}
 use Rattle.trace_text.proofs.Digits.{low_digits-number}
 
-numbers_again : (n : ℕ) → n < 256 → number_up_to 255 (decimal n) ≡ Some n
+pub numbers_again : (n : ℕ) → n < 256 → number_up_to 255 (decimal n) ≡ Some n
 numbers_again n fits = number_up_to-decimal 255 n (omega arith) (lit< tt)
 
-numbers_only : (word : List ℕ) (n : ℕ) → number_up_to 255 word ≡ Some n → (word ≡ decimal n) × (n < 256)
+pub numbers_only : (word : List ℕ) (n : ℕ) → number_up_to 255 word ≡ Some n → (word ≡ decimal n) × (n < 256)
 numbers_only word n e = let p = decimal-number_up_to 255 word n e (lit< tt) in (p.0, omega (arith, p.1))
 
 pub IsSpelling-octets : IsSpelling 46 256 (number_up_to 255) decimal

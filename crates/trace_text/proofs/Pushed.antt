@@ -6,6 +6,6 @@ on_ok_then (Ok done) xs ys zs h same = h ∙ same
 on_ok_then (Err fault) xs ys zs h same = tt
 
 -- four octets, joined by full stops, a colon, and what follows it
-pub ipv4_pushed : (b0 b1 b2 b3 b4 b5 b6 b7 b8 o1 o2 o3 o4 port : List ℕ) → b1 ≡ b0 ++ o1 → b2 ≡ b1 ++ 46 ∷ [] → b3 ≡ b2 ++ o2 → b4 ≡ b3 ++ 46 ∷ [] → b5 ≡ b4 ++ o3 →
-    b6 ≡ b5 ++ 46 ∷ [] → b7 ≡ b6 ++ o4 → b8 ≡ b7 ++ 58 ∷ [] → b8 ++ port ≡ b0 ++ ((o1 ++ 46 ∷ (o2 ++ 46 ∷ (o3 ++ 46 ∷ o4))) ++ 58 ∷ port)
-ipv4_pushed b0 b1 b2 b3 b4 b5 b6 b7 b8 o1 o2 o3 o4 port e1 e2 e3 e4 e5 e6 e7 e8 = rw (e8, e7, e6, e5, e4, e3, e2, e1) (simp append_assoc)
+pub ipv4_pushed : (b0 b1 b2 b3 b4 o1 o2 o3 o4 port : List ℕ) → b1 ≡ b0 ++ (o1 ++ 46 ∷ []) → b2 ≡ b1 ++ (o2 ++ 46 ∷ []) → b3 ≡ b2 ++ (o3 ++ 46 ∷ []) → b4 ≡ b3 ++ (o4 ++ 58 ∷ []) →
+    b4 ++ port ≡ b0 ++ ((o1 ++ 46 ∷ (o2 ++ 46 ∷ (o3 ++ 46 ∷ o4))) ++ 58 ∷ port)
+ipv4_pushed b0 b1 b2 b3 b4 o1 o2 o3 o4 port e1 e2 e3 e4 = rw (e4, e3, e2, e1) (simp append_assoc)

@@ -4,6 +4,7 @@ pub mod Bytes
 pub mod EventTexts
 pub mod Events
 pub mod HeadTexts
+pub mod InTurn
 pub mod Lines
 pub mod Reading
 pub mod Says

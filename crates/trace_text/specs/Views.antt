@@ -1,5 +1,7 @@
 -- What contracts see of the reader's own types.
-use Rattle.std.specs.Prelude.{◌≡◌, ℕ, List, [], ◌∷◌, Option, Some, None, Result, Ok, Err}
+use Rattle.std.specs.Prelude.{◌≡◌, ℕ, List, [], ◌∷◌, Option, Some, None, Result, Ok, Err, if◌then◌else◌}
+use Rattle.std.specs.List.{list_all}
+use Rattle.net_base.specs.Number.{is_digit, decimal_value}
 use Rattle.std.specs.Borrow.{Bor}
 use Rattle.trace_text.specs.declared.line.LineRefusal.{LineRefusal}
 use Rattle.trace_text.specs.declared.line.LineRefusal.TheVariants.{OutOfMemory}
@@ -35,3 +37,7 @@ abbrev pub GivesIfRoom : {A B : Type 0} → (A → B) → Result A LineRefusal �
 GivesIfRoom view (Err OutOfMemory) rest expected = Unit {0}
 GivesIfRoom view (Ok value) rest expected = expected ≡ Ok (view value, rest)
 GivesIfRoom view (Err refusal) rest expected = expected ≡ Err refusal
+
+-- the number that digits spell, where all of them are digits
+abbrev pub digits_value : List ℕ → Option ℕ
+digits_value digits = if list_all is_digit digits then Some (decimal_value digits) else None

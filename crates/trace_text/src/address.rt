@@ -1,9 +1,12 @@
-ghost use Rattle.std.specs.Prelude.{◌≡◌, ◌<◌, ◌≤◌, length, IfSome};
-ghost use Rattle.trace_text.specs.Addresses.{address_of, ipv4_address_of, ipv6_address_of, octets_of, groups_of, port_of, port_after, group_of, hex_digit, number_read};
+ghost use Rattle.std.specs.Prelude.{◌≡◌, ◌<◌, ◌≤◌, length, IfSome, false};
+ghost use Rattle.std.specs.Option.{option_map};
+ghost use Rattle.net_base.specs.Number.{is_digit};
+ghost use Rattle.trace_text.specs.Addresses.{address_of, ipv4_address_of, ipv6_address_of, groups_of, port_of, port_after, group_of, hex_digit, number_read};
+ghost use Rattle.trace_text.specs.InTurn.{ipv4_in_turn, octet_before, octet_up_to};
 
+use crate::decimal::read_decimal;
 use crate::pieces::{Pieces, cut_once};
-use net_base::{Addr, Ip, read_number};
-use std::net::Ipv4Addr;
+use net_base::{Addr, Ip};
 
 /// The address that a word spells. A trace of version 1 has no IPv6 address.
 pub fn read_address(version: u64, word: &[u8]) -> Option<Addr>
@@ -18,10 +21,42 @@ pub fn read_address(version: u64, word: &[u8]) -> Option<Addr>
 fn read_ipv4(word: &[u8]) -> Option<Addr>
     ensures { result ≡ ipv4_address_of word.now }
 {
-    let (host, rest) = cut_once(word, b':')?;
-    let ip = Ip::V4(read_octets(host)?);
+    read_in_turn(word)
+}
+
+fn read_in_turn(word: &[u8]) -> Option<Addr>
+    ensures { result ≡ ipv4_in_turn word.now }
+{
+    let (first, rest) = octet_before(b'.', word)?;
+    let (second, rest) = octet_before(b'.', rest)?;
+    let (third, rest) = octet_before(b'.', rest)?;
+    let (fourth, rest) = octet_before(b':', rest)?;
     let port = read_port(rest)?;
+    let ip = Ip::V4(u32::from_be_bytes([first, second, third, fourth]));
     Some(Addr { ip, port })
+}
+
+// An octet has one, two or three digits.
+#[inline(always)]
+fn octet_before(separator: u8, text: &[u8]) -> Option<(u8, &[u8])>
+    requires { is_digit separator ≡ false }
+    ensures { option_map (λ read. (read.0, read.1.now)) result ≡ octet_before separator text.now }
+{
+    match text {
+        [_, end, ..] if *end == separator => octet_up_to(1, text),
+        [_, _, end, ..] if *end == separator => octet_up_to(2, text),
+        [_, _, _, end, ..] if *end == separator => octet_up_to(3, text),
+        _ => None,
+    }
+}
+
+#[inline(always)]
+fn octet_up_to(end: usize, text: &[u8]) -> Option<(u8, &[u8])>
+    requires { end < length text.now }
+    ensures { option_map (λ read. (read.0, read.1.now)) result ≡ octet_up_to end text.now }
+{
+    let octet = read_decimal(&text[..end], 255)?;
+    Some((octet as u8, &text[end + 1..]))
 }
 
 // An IPv6 address behind its opening bracket.
@@ -37,7 +72,7 @@ fn read_ipv6(word: &[u8]) -> Option<Addr>
 fn read_port(word: &[u8]) -> Option<u16>
     ensures { result ≡ port_of word.now }
 {
-    let port = read_number(word, 65_535)?;
+    let port = read_decimal(word, 65_535)?;
     Some(port as u16)
 }
 
@@ -47,15 +82,6 @@ fn read_port_after(word: &[u8]) -> Option<u16>
     match word {
         [b':', port @ ..] => read_port(port),
         _ => None,
-    }
-}
-
-fn read_octets(text: &[u8]) -> Option<u32>
-    ensures { result ≡ octets_of text.now }
-{
-    match Ipv4Addr::parse_ascii(text) {
-        Ok(ip) => Some(ip.to_bits()),
-        Err(_) => None,
     }
 }
 

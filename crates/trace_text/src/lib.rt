@@ -2,6 +2,7 @@
 #![tactic(auto)]
 
 mod address;
+mod decimal;
 mod event;
 mod event_text;
 mod group_text;

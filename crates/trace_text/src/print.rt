@@ -1,4 +1,5 @@
-ghost use Rattle.std.specs.Prelude.{◌≡◌, ◌≤◌, ◌++◌, length, take, Contains, IfOk, OnOk};
+ghost use Rattle.std.specs.Prelude.{◌≡◌, ◌≤◌, ◌∷◌, ◌++◌, length, take, codes, decimal, Contains, IfOk, OnOk};
+ghost use Rattle.net_base.specs.declared.action.Action.TheVariants.{Admit, Turnaway, Dial, Send, Close, Pause, AskRoots, State, Peer};
 ghost use Rattle.trace_text.specs.declared.line.Line.TheVariants.{Acted};
 ghost use Rattle.trace_text.specs.declared.stage.Stage.{Stage};
 ghost use Rattle.trace_text.specs.Lines.{line_of};
@@ -6,7 +7,9 @@ ghost use Rattle.trace_text.specs.Actions.{printed_action, away_word, fault_word
 
 use crate::PrintedLine;
 use crate::pushing::{push_address, push_hex, push_number, push_text};
-use net_base::{Action, Away, CloseCause, FaultKind, Octets, OutOfMemory, PeerNote, StateName};
+use net_base::{
+    Action, Addr, Away, Cid, CloseCause, FaultKind, Job, Octets, OutOfMemory, PeerNote, StateName,
+};
 use std::alloc::Global;
 
 /// The line of an action, with its `> ` and without a line feed.
@@ -35,55 +38,139 @@ fn push_action(alloc: Global, action: &Action, bytes: &mut Vec<u8>) -> Result<()
     ensures front { take (length bytes.old.items) bytes.new.items ≡ bytes.old.items }
 {
     match action {
-        Action::Admit(cid, address) => {
-            bytes.extend_from_slice(b"> admit ")?;
-            push_number(cid.0, bytes)?;
-            bytes.push(b' ')?;
-            push_address(alloc, address, bytes)
-        }
-        Action::Turnaway(away) => {
-            bytes.extend_from_slice(b"> turnaway ")?;
-            push_text(away_word(*away), bytes)
-        }
-        Action::Dial(cid, address) => {
-            bytes.extend_from_slice(b"> dial ")?;
-            push_number(cid.0, bytes)?;
-            bytes.push(b' ')?;
-            push_address(alloc, address, bytes)
-        }
-        Action::Send(cid, piece) => {
-            bytes.extend_from_slice(b"> send ")?;
-            push_number(cid.0, bytes)?;
-            bytes.push(b' ')?;
-            push_hex(piece.as_slice(), bytes)
-        }
-        Action::Close(cid, cause) => {
-            bytes.extend_from_slice(b"> close ")?;
-            push_number(cid.0, bytes)?;
-            bytes.push(b' ')?;
-            push_text(cause_words(*cause), bytes)
-        }
-        Action::Pause(time) => {
-            bytes.extend_from_slice(b"> pause ")?;
-            push_number(*time, bytes)
-        }
-        Action::AskRoots(job) => {
-            bytes.extend_from_slice(b"> askroots ")?;
-            push_number(job.0, bytes)
-        }
-        Action::State(cid, name) => {
-            bytes.extend_from_slice(b"> state ")?;
-            push_number(cid.0, bytes)?;
-            bytes.push(b' ')?;
-            push_text(state_word(*name), bytes)
-        }
-        Action::Peer(address, note) => {
-            bytes.extend_from_slice(b"> peer ")?;
-            push_address(alloc, address, bytes)?;
-            bytes.push(b' ')?;
-            push_text(note_word(*note), bytes)
-        }
+        Action::Admit(cid, address) => push_admit(alloc, *cid, address, bytes),
+        Action::Turnaway(away) => push_turnaway(*away, bytes),
+        Action::Dial(cid, address) => push_dial(alloc, *cid, address, bytes),
+        Action::Send(cid, piece) => push_send(*cid, piece.as_slice(), bytes),
+        Action::Close(cid, cause) => push_close(*cid, *cause, bytes),
+        Action::Pause(time) => push_pause(*time, bytes),
+        Action::AskRoots(job) => push_ask(*job, bytes),
+        Action::State(cid, name) => push_state(*cid, *name, bytes),
+        Action::Peer(address, note) => push_peer(alloc, address, *note, bytes),
     }
+}
+
+fn push_admit(
+    alloc: Global,
+    cid: Cid,
+    address: &Addr,
+    bytes: &mut Vec<u8>,
+) -> Result<(), OutOfMemory>
+    ensures ok { OnOk result (bytes.new.items ≡ bytes.old.items ++ printed_action (Admit cid address.now)) }
+    ensures more { length bytes.old.items ≤ length bytes.new.items }
+    ensures front { take (length bytes.old.items) bytes.new.items ≡ bytes.old.items }
+{
+    push_text("> admit ", bytes)?;
+    push_id(cid, bytes)?;
+    push_address(alloc, address, bytes)
+}
+
+fn push_turnaway(away: Away, bytes: &mut Vec<u8>) -> Result<(), OutOfMemory>
+    ensures ok { OnOk result (bytes.new.items ≡ bytes.old.items ++ printed_action (Turnaway away)) }
+    ensures more { length bytes.old.items ≤ length bytes.new.items }
+    ensures front { take (length bytes.old.items) bytes.new.items ≡ bytes.old.items }
+{
+    push_text("> turnaway ", bytes)?;
+    push_text(away_word(away), bytes)
+}
+
+fn push_dial(
+    alloc: Global,
+    cid: Cid,
+    address: &Addr,
+    bytes: &mut Vec<u8>,
+) -> Result<(), OutOfMemory>
+    ensures ok { OnOk result (bytes.new.items ≡ bytes.old.items ++ printed_action (Dial cid address.now)) }
+    ensures more { length bytes.old.items ≤ length bytes.new.items }
+    ensures front { take (length bytes.old.items) bytes.new.items ≡ bytes.old.items }
+{
+    push_text("> dial ", bytes)?;
+    push_id(cid, bytes)?;
+    push_address(alloc, address, bytes)
+}
+
+fn push_send(cid: Cid, piece: &[u8], bytes: &mut Vec<u8>) -> Result<(), OutOfMemory>
+    ensures ok { OnOk result (bytes.new.items ≡ bytes.old.items ++ printed_action (Send cid piece.now)) }
+    ensures more { length bytes.old.items ≤ length bytes.new.items }
+    ensures front { take (length bytes.old.items) bytes.new.items ≡ bytes.old.items }
+{
+    push_text("> send ", bytes)?;
+    push_id(cid, bytes)?;
+    push_hex(piece, bytes)
+}
+
+fn push_close(cid: Cid, cause: CloseCause, bytes: &mut Vec<u8>) -> Result<(), OutOfMemory>
+    ensures ok { OnOk result (bytes.new.items ≡ bytes.old.items ++ printed_action (Close cid cause)) }
+    ensures more { length bytes.old.items ≤ length bytes.new.items }
+    ensures front { take (length bytes.old.items) bytes.new.items ≡ bytes.old.items }
+{
+    push_text("> close ", bytes)?;
+    push_id(cid, bytes)?;
+    push_text(cause_words(cause), bytes)
+}
+
+fn push_pause(time: u64, bytes: &mut Vec<u8>) -> Result<(), OutOfMemory>
+    ensures ok { OnOk result (bytes.new.items ≡ bytes.old.items ++ printed_action (Pause time)) }
+    ensures more { length bytes.old.items ≤ length bytes.new.items }
+    ensures front { take (length bytes.old.items) bytes.new.items ≡ bytes.old.items }
+{
+    push_text("> pause ", bytes)?;
+    push_number(time, bytes)
+}
+
+fn push_ask(job: Job, bytes: &mut Vec<u8>) -> Result<(), OutOfMemory>
+    ensures ok { OnOk result (bytes.new.items ≡ bytes.old.items ++ printed_action (AskRoots job)) }
+    ensures more { length bytes.old.items ≤ length bytes.new.items }
+    ensures front { take (length bytes.old.items) bytes.new.items ≡ bytes.old.items }
+{
+    push_text("> askroots ", bytes)?;
+    push_number(job.0, bytes)
+}
+
+fn push_state(cid: Cid, name: StateName, bytes: &mut Vec<u8>) -> Result<(), OutOfMemory>
+    ensures ok { OnOk result (bytes.new.items ≡ bytes.old.items ++ printed_action (State cid name)) }
+    ensures more { length bytes.old.items ≤ length bytes.new.items }
+    ensures front { take (length bytes.old.items) bytes.new.items ≡ bytes.old.items }
+{
+    push_text("> state ", bytes)?;
+    push_id(cid, bytes)?;
+    push_text(state_word(name), bytes)
+}
+
+fn push_peer(
+    alloc: Global,
+    address: &Addr,
+    note: PeerNote,
+    bytes: &mut Vec<u8>,
+) -> Result<(), OutOfMemory>
+    ensures ok { OnOk result (bytes.new.items ≡ bytes.old.items ++ printed_action (Peer address.now note)) }
+    ensures more { length bytes.old.items ≤ length bytes.new.items }
+    ensures front { take (length bytes.old.items) bytes.new.items ≡ bytes.old.items }
+{
+    push_text("> peer ", bytes)?;
+    push_address(alloc, address, bytes)?;
+    push_noted(note, bytes)
+}
+
+// A space and what is noted of a peer.
+fn push_noted(note: PeerNote, bytes: &mut Vec<u8>) -> Result<(), OutOfMemory>
+    ensures ok { OnOk result (bytes.new.items ≡ bytes.old.items ++ (32 ∷ note_word note)) }
+    ensures more { length bytes.old.items ≤ length bytes.new.items }
+    ensures front { take (length bytes.old.items) bytes.new.items ≡ bytes.old.items }
+{
+    bytes.push(b' ')?;
+    push_text(note_word(note), bytes)
+}
+
+// An id and a space.
+fn push_id(cid: Cid, bytes: &mut Vec<u8>) -> Result<(), OutOfMemory>
+    ensures ok { OnOk result (bytes.new.items ≡ bytes.old.items ++ (decimal cid.0 ++ codes " ")) }
+    ensures more { length bytes.old.items ≤ length bytes.new.items }
+    ensures front { take (length bytes.old.items) bytes.new.items ≡ bytes.old.items }
+{
+    push_number(cid.0, bytes)?;
+    bytes.push(b' ')?;
+    Ok(())
 }
 
 fn away_word(away: Away) -> &'static str

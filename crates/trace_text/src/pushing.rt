@@ -1,6 +1,6 @@
 //! What lines are made of, printed behind some bytes. Where memory is wanting the bytes are as they were.
 
-ghost use Rattle.std.specs.Prelude.{◌≡◌, ◌≤◌, ◌∷◌, ◌++◌, length, take, decimal, OnOk, OnErr};
+ghost use Rattle.std.specs.Prelude.{◌≡◌, ◌≤◌, [], ◌∷◌, ◌++◌, length, take, decimal, OnOk, OnErr};
 ghost use Rattle.hex.specs.Hex.{encode_lower};
 ghost use Rattle.trace_text.specs.Addresses.{printed_address, printed_octets};
 
@@ -73,15 +73,23 @@ fn push_ipv4(ip: u32, port: u16, bytes: &mut Vec<u8>) -> Result<(), OutOfMemory>
     ensures front { take (length bytes.old.items) bytes.new.items ≡ bytes.old.items }
     ensures more { length bytes.old.items ≤ length bytes.new.items }
 {
-    push_number(u64::from(ip / 16_777_216 % 256), bytes)?;
-    bytes.push(b'.')?;
-    push_number(u64::from(ip / 65_536 % 256), bytes)?;
-    bytes.push(b'.')?;
-    push_number(u64::from(ip / 256 % 256), bytes)?;
-    bytes.push(b'.')?;
-    push_number(u64::from(ip % 256), bytes)?;
-    bytes.push(b':')?;
+    push_octet(ip / 16_777_216 % 256, b'.', bytes)?;
+    push_octet(ip / 65_536 % 256, b'.', bytes)?;
+    push_octet(ip / 256 % 256, b'.', bytes)?;
+    push_octet(ip % 256, b':', bytes)?;
     push_number(u64::from(port), bytes)
+}
+
+// An octet and what ends it.
+#[inline(always)]
+fn push_octet(octet: u32, end: u8, bytes: &mut Vec<u8>) -> Result<(), OutOfMemory>
+    ensures ok { OnOk result (bytes.new.items ≡ bytes.old.items ++ (decimal octet ++ end ∷ [])) }
+    ensures front { take (length bytes.old.items) bytes.new.items ≡ bytes.old.items }
+    ensures more { length bytes.old.items ≤ length bytes.new.items }
+{
+    push_number(u64::from(octet), bytes)?;
+    bytes.push(end)?;
+    Ok(())
 }
 
 /// Bytes in hexadecimal.

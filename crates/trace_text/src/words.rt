@@ -9,10 +9,11 @@ ghost use Rattle.trace_text.specs.Views.{Gives, GivesIfRoom, found_view};
 
 use crate::LineRefusal;
 use crate::address::read_address;
+use crate::decimal::read_decimal;
 use crate::piece::read_piece;
 use crate::pieces::Pieces;
 use crate::setting::{Found, setting_named};
-use net_base::{Addr, AddrList, Group, GroupList, Octets, OutOfMemory, read_number};
+use net_base::{Addr, AddrList, Group, GroupList, Octets, OutOfMemory};
 use std::alloc::Global;
 use std::marker::Model;
 
@@ -75,7 +76,7 @@ impl<'a> Words<'a> {
     {
         let place = self.place;
         let word = self.word()?;
-        match read_number(word, most) {
+        match read_decimal(word, most) {
             Some(n) if n >= least => Ok(n),
             _ => Err(LineRefusal::BadNumber(place)),
         }
