@@ -7,7 +7,7 @@ use net_base::{Addr, Agreed, Ip, Responders, Settings};
 mod chunks;
 mod gate;
 mod least;
-mod links;
+mod link_rows;
 mod order;
 mod plain;
 mod pruning;
