@@ -1,9 +1,10 @@
 -- A front of a line that is held, and the bytes ahead of it.
 use Rattle.std.proofs.Common.{◌≡◌, ℕ, ◌+◌, ◌-◌, ◌<◌, ◌≤◌, List, [], ◌∷◌, ◌++◌, length, take, drop, refl, sym, ap, ap₂, subst, ◌∙◌, ◌⊎◌, inl, inr, ⊎_elim, arith}
-use Rattle.std.specs.List.{before_first, position_or_len}
+use Rattle.std.specs.List.{before_first, position_or_len, copy_within}
 use Rattle.std.proofs.lemmas.Bool.{cases_lt}
 use Rattle.std.proofs.lemmas.List.{append_assoc, length-append, length-take, length-drop, drop-drop, drop_all, take_all, take-append-le, drop-append-le}
 use lib.Seq.{drop-append-add}
+use Rattle.std.proofs.lemmas.List.Edits.{paste_all}
 use Rattle.std.proofs.lemmas.List.Elements.{All-nil}
 use Rattle.std.proofs.lemmas.List.Sums.{prefix_len-le-length}
 use Rattle.io_edge.specs.Lines.{is_line_feed, StandsInLine, HasNoLineFeed, line_limit, FitsLine, IsPastLimit}
@@ -66,11 +67,12 @@ first_cut_off bytes n at found few =
 
 -- what is held and ahead, where the first of them are given up and some are held
 pub given_up : (held ahead : List ℕ) (count first : ℕ) → (count ≤ length held → first ≡ count) → (length held < count → first ≡ length held) → first ≤ length held →
-    take (length held - first) (drop first held ++ take first held) ++ drop (count - first) ahead ≡ drop count (held ++ ahead)
+    take (length held - first) (copy_within held first (length held) 0) ++ drop (count - first) ahead ≡ drop count (held ++ ahead)
 given_up held ahead count first short long within =
     let size : length (drop first held) ≡ length held - first = length-drop first held in
-    let kept : take (length held - first) (drop first held ++ take first held) ≡ drop first held =
-    take-append-le (length held - first) (drop first held) (take first held) (omega arith) ∙ take_all (length held - first) (drop first held) (omega arith) in
+    let kept : take (length held - first) (copy_within held first (length held) 0) ≡ drop first held =
+    ap (take (length held - first)) (paste_all held 0 (drop first held) (length held - first) (sym size))
+    ∙ take-append-le (length held - first) (drop first held) (drop (0 + (length held - first)) held) (omega arith) ∙ take_all (length held - first) (drop first held) (omega arith) in
     ⊎_elim
     (λ more.
     let all : length held ≡ first = sym (long more) in

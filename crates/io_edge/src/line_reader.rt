@@ -210,7 +210,7 @@ fn give_up_held(held: &mut Vec<u8>, window: &mut Window, count: usize)
     ensures fits { length window.new ≤ length window.old }
 {
     let first = count.min(held.len());
-    held.rotate_left(first);
+    held.copy_within(first..held.len(), 0);
     held.truncate(held.len() - first);
     window.consume(count - first);
 }

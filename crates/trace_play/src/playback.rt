@@ -157,6 +157,7 @@ impl<E: Stepper> Playback<E> {
             (kept self.new.stage self.new.heads.items (begun self.new.engine E.machine E.events)) pieces.old pieces.new result }
     {
         match read(self.alloc, &self.stage, text) {
+            Ok(Line::Acted) => Ok(()),
             Ok(line) => self.play(&line, text, pieces),
             Err(refusal) => Err(Stop::from(refusal)),
         }

@@ -18,6 +18,7 @@ pub mod Numerals
 pub mod Octets
 pub mod PrintedEvents
 mod Pushed
+pub mod Places
 pub mod Printed
 pub mod ReadEvents
 pub mod Reading

@@ -16,7 +16,7 @@ pub(crate) fn are_lower_digits(word: &[u8]) -> bool
     lower
 }
 
-fn is_lower_digit(digit: u8) -> bool
+pub(crate) fn is_lower_digit(digit: u8) -> bool
     ensures { result ≡ is_lower_digit digit }
 {
     matches!(digit, b'0'..=b'9' | b'a'..=b'f')

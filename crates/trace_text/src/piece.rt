@@ -1,8 +1,8 @@
-ghost use Rattle.std.specs.Prelude.{◌≡◌, ◌≢◌, IfOk, OnErr, None};
-ghost use Rattle.std.specs.List.{join_with_byte};
+ghost use Rattle.std.specs.Prelude.{◌≡◌, ◌≢◌, true, IfOk, OnErr, None};
+ghost use Rattle.std.specs.List.{join_with_byte, list_all};
 ghost use Rattle.std.specs.String.{string_bytes};
 ghost use Rattle.trace_text.specs.Bytes.{bytes_words};
-ghost use Rattle.trace_text.specs.Events.{piece_of};
+ghost use Rattle.trace_text.specs.Events.{is_lower_digit, piece_of};
 
 use crate::line_text::longer_text;
 use crate::lower_hex::{are_lower_digits, decode_lower};
@@ -17,11 +17,19 @@ pub fn read_piece(alloc: Global, word: &[u8]) -> Result<Option<Octets>, OutOfMem
     ensures piece { IfOk result (λ piece. piece ≡ piece_of word.now) }
     ensures memory { OnErr result (piece_of word.now ≢ None) }
 {
-    if word.len() < 2
-        || DIGITS_MOST < word.len()
-        || word.len() % 2 == 1
-        || !are_lower_digits(word)
-    {
+    if !are_lower_digits(word) {
+        return Ok(None);
+    }
+    decode_piece(alloc, word)
+}
+
+/// The same of digits in lower case.
+pub(crate) fn decode_piece(alloc: Global, word: &[u8]) -> Result<Option<Octets>, OutOfMemory>
+    requires { list_all is_lower_digit word.now ≡ true }
+    ensures piece { IfOk result (λ piece. piece ≡ piece_of word.now) }
+    ensures memory { OnErr result (piece_of word.now ≢ None) }
+{
+    if word.len() < 2 || DIGITS_MOST < word.len() || word.len() % 2 == 1 {
         return Ok(None);
     }
     let mut bytes = vec![in alloc; 0; word.len() / 2]?;

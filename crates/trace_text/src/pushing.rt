@@ -1,6 +1,6 @@
 //! What lines are made of, printed behind some bytes. Where memory is wanting the bytes are as they were.
 
-ghost use Rattle.std.specs.Prelude.{◌≡◌, ◌≤◌, [], ◌∷◌, ◌++◌, length, take, decimal, OnOk, OnErr};
+ghost use Rattle.std.specs.Prelude.{◌≡◌, ◌≤◌, ◌<◌, [], ◌∷◌, ◌++◌, length, take, decimal, OnOk, OnErr};
 ghost use Rattle.hex.specs.Hex.{encode_lower};
 ghost use Rattle.trace_text.specs.Addresses.{printed_address, printed_octets};
 
@@ -20,8 +20,28 @@ pub fn push_number(number: u64, bytes: &mut Vec<u8>) -> Result<(), OutOfMemory>
         bytes.push(b'0' + number as u8)?;
         return Ok(());
     }
+    if number < 1000 {
+        return push_few(number as u16, bytes);
+    }
     let mut digits = Buffer::new();
     bytes.extend_from_slice(digits.format(number).as_bytes())?;
+    Ok(())
+}
+
+// A number of two or three digits.
+#[inline(always)]
+fn push_few(number: u16, bytes: &mut Vec<u8>) -> Result<(), OutOfMemory>
+    requires two { 10 ≤ number }
+    requires three { number < 1000 }
+    ensures ok { OnOk result (bytes.new.items ≡ bytes.old.items ++ decimal number) }
+    ensures err { OnErr result (bytes.new.items ≡ bytes.old.items) }
+{
+    let (front, last) = (number / 10, b'0' + (number % 10) as u8);
+    if front < 10 {
+        bytes.extend_from_slice(&[b'0' + front as u8, last])?;
+    } else {
+        bytes.extend_from_slice(&[b'0' + (front / 10) as u8, b'0' + (front % 10) as u8, last])?;
+    }
     Ok(())
 }
 

@@ -9,8 +9,8 @@ ghost use Rattle.trace_text.specs.Views.{Gives, GivesIfRoom, found_view};
 
 use crate::LineRefusal;
 use crate::address::read_address;
-use crate::decimal::read_decimal;
-use crate::piece::read_piece;
+use crate::decimal::{decimal_of, read_decimal};
+use crate::piece::{decode_piece, read_piece};
 use crate::pieces::Pieces;
 use crate::setting::{Found, setting_named};
 use net_base::{Addr, AddrList, Group, GroupList, Octets, OutOfMemory};
@@ -75,8 +75,14 @@ impl<'a> Words<'a> {
         ensures { Gives (λ n. n) result self.new (next_number least most self.old) }
     {
         let place = self.place;
-        let word = self.word()?;
-        match read_decimal(word, most) {
+        let found = match self.pieces.take_digits() {
+            Some((digits, value)) => {
+                self.place += 1;
+                decimal_of(digits, value, most)
+            }
+            None => read_decimal(self.word()?, most),
+        };
+        match found {
             Some(n) if n >= least => Ok(n),
             _ => Err(LineRefusal::BadNumber(place)),
         }
@@ -145,8 +151,14 @@ impl<'a> Words<'a> {
         ensures { GivesIfRoom (λ bytes. bytes) result self.new (next_read piece_of BadWord self.old) }
     {
         let place = self.place;
-        let word = self.word()?;
-        match read_piece(alloc, word) {
+        let found = match self.pieces.take_lower() {
+            Some(digits) => {
+                self.place += 1;
+                decode_piece(alloc, digits)
+            }
+            None => read_piece(alloc, self.word()?),
+        };
+        match found {
             Ok(Some(bytes)) => Ok(bytes),
             Ok(None) => Err(LineRefusal::BadWord(place)),
             Err(OutOfMemory) => Err(LineRefusal::OutOfMemory),

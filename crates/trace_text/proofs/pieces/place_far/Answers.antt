@@ -5,7 +5,7 @@ use Rattle.std.proofs.lemmas.Bool.{cases_Bool}
 use Rattle.std.proofs.lemmas.Grind.{common_steps}
 use Rattle.std.proofs.lemmas.List.Sums.{position_or_len_is}
 use Rattle.memchr.specs.Find.{IsFirstByte, is_byte}
-use Rattle.trace_text.proofs.pieces.place_of_many.Goals as goal
+use Rattle.trace_text.proofs.pieces.place_far.Goals as goal
 
 not_there : (c : ℕ) (bytes : List ℕ) (k : ℕ) → (is_byte c (get_or bytes k 0) ≡ true → ⊥) → is_byte c (get_or bytes k 0) ≡ false
 not_there c bytes k never = ⊎_elim (λ there. absurd (never there)) (λ absent. absent) (cases_Bool (is_byte c (get_or bytes k 0)))
