@@ -9,6 +9,9 @@ use std::alloc::Global;
 // How many bytes of payload a written segment has at most.
 const PAYLOAD_LIMIT: usize = 12_288;
 
+// How many bytes stand before it.
+const HEADER_SIZE: usize = 8;
+
 /// A payload as segments of one side, protocol and moment, in milliseconds: each but the last has 12,288 bytes
 /// of payload. An empty payload is one segment of size 0.
 pub fn frame(
@@ -23,8 +26,9 @@ pub fn frame(
     ensures { IfOk result (λ bytes. bytes ≡ frame_of side id now payload.now) }
 {
     let time = time_of(now);
-    let mut out = Octets::new(alloc);
     let (piece, mut rest) = split_piece(payload);
+    let room = Vec::with_capacity(alloc, HEADER_SIZE + piece.len())?;
+    let mut out = Octets::from_vec(room);
     push_segment(&mut out, side, id, time, piece)?;
     while !rest.is_empty() {
         let (piece, after) = split_piece(rest);

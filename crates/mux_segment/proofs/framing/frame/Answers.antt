@@ -10,7 +10,7 @@ loop-rest-init c =
     let piece = c.split_piece.result.0.now in
     frame_starts c.args.side c.args.id c.time_of-time.result c.args.payload.now c.push_segment.new.out piece c.split_piece.result.1.now
     c.split_piece.ensures.piece c.split_piece.ensures.rest
-    (c.in_ok-push_segment.ensures ∙ ap (λ (x : List ℕ). x ++ segment_bytes (segment_of c.args.side c.args.id c.time_of-time.result piece)) c.new-out.ensures)
+    (c.in_ok-push_segment.ensures ∙ ap (λ (x : List ℕ). x ++ segment_bytes (segment_of c.args.side c.args.id c.time_of-time.result piece)) (c.from_vec-out.ensures ∙ c.in_ok-room.ensures.items))
 
 pub loop-rest-smaller : goal.loop-rest-smaller
 loop-rest-smaller c =
