@@ -11,7 +11,7 @@ use std::net::Net;
 use std::time::Clock;
 
 /// A world on sockets: it listens at the node's own address from when it is opened, and dials. A socket that fails is
-/// an event; only listening, waiting for the sockets and the clock can fail. It never ends. What comes and goes on its
+/// an event; only listening, what waits for the sockets, and the clock can fail. It never ends. What comes and goes on its
 /// sockets is not told: contracts see whether it is open, and the count of its faults.
 #[derive(Drop)]
 pub struct LoopWorld<R> {

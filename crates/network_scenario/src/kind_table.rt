@@ -1,10 +1,8 @@
-use crate::values::{Row, as_table, flag, number, numbers, text_at};
+use crate::values::{Row, as_table, flag, keep, number, numbers, text_at};
 use crate::{Due, Friends, Kind, Role, ScenarioRefusal};
-use net_base::{Addr, Ip, OutOfMemory, Settings, Targets};
+use net_base::{Addr, INTERVAL_MOST, Ip, OutOfMemory, Settings, Targets};
 use std::alloc::Global;
 use toml::{Table, Value};
-
-const DAY: u64 = 86_400_000;
 
 const NAMES: &[&str] = &[
     "name",
@@ -42,11 +40,11 @@ const NODES_MOST: u64 = 100_000;
 
 const COUNT: Row = Row("count", 0, NODES_MOST);
 
-const WITHIN: Row = Row("within", 1, DAY);
+const WITHIN: Row = Row("within", 1, INTERVAL_MOST);
 
 const HABITS: [Row; 3] = [
     Row("public", 0, NODES_MOST),
-    Row("tick", 1, DAY),
+    Row("tick", 1, INTERVAL_MOST),
     Row("holds", 0, 10_000),
 ];
 
@@ -55,16 +53,16 @@ const HARD: Row = Row("hard", 0, 10_000);
 // The bounds of each are tested with all of them.
 const SETTINGS: [Row; 11] = [
     Row("soft", 0, 10_000),
-    Row("delay", 0, DAY),
-    Row("idle", 0, DAY),
-    Row("timewait", 0, DAY),
-    Row("handshake", 0, DAY),
-    Row("reply", 0, DAY),
-    Row("backoff", 0, DAY),
-    Row("sharegap", 0, DAY),
-    Row("shares", 0, DAY),
-    Row("sharing", 0, DAY),
-    Row("initiatoronly", 0, DAY),
+    Row("delay", 0, INTERVAL_MOST),
+    Row("idle", 0, INTERVAL_MOST),
+    Row("timewait", 0, INTERVAL_MOST),
+    Row("handshake", 0, INTERVAL_MOST),
+    Row("reply", 0, INTERVAL_MOST),
+    Row("backoff", 0, INTERVAL_MOST),
+    Row("sharegap", 0, INTERVAL_MOST),
+    Row("shares", 0, INTERVAL_MOST),
+    Row("sharing", 0, INTERVAL_MOST),
+    Row("initiatoronly", 0, INTERVAL_MOST),
 ];
 
 const TARGETS: [Row; 4] = [
@@ -87,11 +85,6 @@ pub(crate) fn read_kinds(
         let kind = read_kind(alloc, value, values)?;
         keep(kinds, kind)?;
     }
-    Ok(())
-}
-
-fn keep(kinds: &mut Vec<Kind>, kind: Kind) -> Result<(), OutOfMemory> {
-    kinds.push(kind)?;
     Ok(())
 }
 
@@ -172,7 +165,7 @@ fn read_settings(table: &Table) -> Result<Settings, ScenarioRefusal> {
     let usual = Settings::usual(nobody);
     let hard = number(Some(table), &HARD, Some(usual.hard))?;
     let usual_numbers = [
-        hard.min(384),
+        hard.min(usual.soft),
         usual.delay,
         usual.idle,
         usual.timewait,

@@ -1,7 +1,6 @@
 use crate::kind_table::kind_named;
-use crate::values::{Row, as_table, number, share, tables_at};
+use crate::values::{Row, as_table, keep, number, share, tables_at};
 use crate::{Apart, Due, Leaving, Parting, ScenarioRefusal};
-use net_base::OutOfMemory;
 use toml::{Table, Value};
 
 const SECOND: u64 = 1_000;
@@ -26,11 +25,6 @@ pub(crate) fn read_leavings(
     for value in tables_at(table, "leaving")? {
         keep(leavings, read_leaving(value)?)?;
     }
-    Ok(())
-}
-
-fn keep<T: Drop>(list: &mut Vec<T>, item: T) -> Result<(), OutOfMemory> {
-    list.push(item)?;
     Ok(())
 }
 

@@ -2,13 +2,12 @@ use crate::kind_table::read_kinds;
 use crate::mishap_tables::{read_leavings, read_partings};
 use crate::values::{Row, as_table, check_names, number, numbers, tables_at, text_at};
 use crate::{Due, Links, Provider, Scenario, ScenarioRefusal, Words};
+use net_base::INTERVAL_MOST;
 use std::alloc::Global;
 use toml::Table;
 
 // A minute and a day, in milliseconds.
 const MINUTE: u64 = 60_000;
-
-const DAY: u64 = 86_400_000;
 
 const NAMES: &[&str] = &[
     "seconds", "words", "links", "roots", "kind", "parting", "leaving",
@@ -39,7 +38,7 @@ const DELAYS: [Row; 5] = [
     Row("wait", 1, MINUTE),
 ];
 
-const ROOTS: [Row; 2] = [Row("told", 0, 10_000), Row("serves", 1, DAY)];
+const ROOTS: [Row; 2] = [Row("told", 0, 10_000), Row("serves", 1, INTERVAL_MOST)];
 
 /// Reads a scenario file: a TOML table, as docs/NETWORK.md has it. The first value that is wrong is told, with what was
 /// due in its place.

@@ -59,7 +59,7 @@ impl Scenario {
         nodes
     }
 
-    /// As many engines are begun at most: each node's, and one more of it after each time that nodes leave.
+    /// As many engines are begun at most: each node's, and one more of it after each time that nodes leave and come back.
     pub fn engines(&self) -> u64 {
         let mut lives: u64 = 1;
         for leaving in &self.leavings {

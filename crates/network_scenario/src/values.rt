@@ -2,6 +2,7 @@ ghost use Rattle.std.specs.Prelude.{◌≡◌, length, IfOk};
 ghost use Rattle.network_scenario.specs.Ranges.{IsIn, AreIn};
 
 use crate::{Due, ScenarioRefusal};
+use net_base::OutOfMemory;
 use toml::{Table, Value};
 
 /// A row of docs/NETWORK.md: the name of a number, and its range.
@@ -138,4 +139,10 @@ fn is_among(key: &str, names: &[&str]) -> bool {
         }
     }
     false
+}
+
+/// Puts an item behind others.
+pub(crate) fn keep<T: Drop>(list: &mut Vec<T>, item: T) -> Result<(), OutOfMemory> {
+    list.push(item)?;
+    Ok(())
 }

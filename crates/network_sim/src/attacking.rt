@@ -6,9 +6,9 @@ use crate::addresses::address_of;
 use crate::ground::Ground;
 use crate::link::Side;
 use crate::segments::{
-    ACCEPTANCE, ALIVE_WITH_FIVE, INITIATOR, NO_INTERSECTION, PROPOSAL, RESPONDER, heard, spoken,
+    ACCEPTANCE, ALIVE_WITH_FIVE, INITIATOR, NO_INTERSECTION, PROPOSAL, RESPONDER,
 };
-use mux_segment::Header;
+use mux_segment::{Header, frame, split_segment};
 use net_base::protocol::{CHAIN_SYNC, HANDSHAKE, KEEP_ALIVE, PEER_SHARING};
 use net_base::{AddrList, Octets, OutOfMemory};
 use network_scenario::Role;
@@ -39,7 +39,7 @@ impl Ground {
 
     /// An attacker's node proposes, on a socket that it opened.
     pub(crate) fn propose(&mut self, id: u64) -> Result<(), OutOfMemory> {
-        let bytes = spoken(self.alloc, INITIATOR, HANDSHAKE, &PROPOSAL)?;
+        let bytes = frame(self.alloc, INITIATOR, HANDSHAKE, 0, &PROPOSAL)?;
         self.deliver(id, Side::Acceptor, bytes.as_slice())
     }
 
@@ -51,7 +51,7 @@ impl Ground {
         node: usize,
         bytes: &[u8],
     ) -> Result<(), OutOfMemory> {
-        let Some((header, payload)) = heard(bytes) else {
+        let Some((header, payload, [])) = split_segment(bytes) else {
             return Ok(());
         };
         match self.answer_of(node, header, payload)? {
@@ -112,14 +112,14 @@ fn answer_in_handshake(alloc: Global, header: Header) -> Result<Option<Octets>, 
     if header.side == INITIATOR {
         return said(alloc, HANDSHAKE, &ACCEPTANCE);
     }
-    let bytes = spoken(alloc, INITIATOR, KEEP_ALIVE, &ALIVE_WITH_FIVE)?;
+    let bytes = frame(alloc, INITIATOR, KEEP_ALIVE, 0, &ALIVE_WITH_FIVE)?;
     Ok(Some(bytes))
 }
 
 fn said(alloc: Global, id: u16, payload: &[u8]) -> Result<Option<Octets>, OutOfMemory>
     requires { id < 2 ^ 15 }
 {
-    let bytes = spoken(alloc, RESPONDER, id, payload)?;
+    let bytes = frame(alloc, RESPONDER, id, 0, payload)?;
     Ok(Some(bytes))
 }
 

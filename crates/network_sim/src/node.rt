@@ -27,7 +27,7 @@ pub(crate) struct Node {
     pub callers: VecDeque<u64>,
     /// It accepts nobody before this moment.
     pub paused_until: u64,
-    /// It is in the smaller part while the network is in two.
+    /// It is in the part that `Parting::apart` names while the network is in two.
     pub is_apart: bool,
     pub peers: Peers,
     reached: Reached,

@@ -1,5 +1,5 @@
-//! The program of a Cardano node's connection manager: it replays traces and checks them,
-//! runs a made town, and runs a node on sockets.
+//! The program of a Cardano node's connection manager: it replays traces and checks them, runs a made town, leads a pair
+//! through a handshake, serves local clients, and runs a node on sockets.
 #![tactic(auto)]
 
 mod words;
