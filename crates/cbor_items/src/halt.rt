@@ -3,7 +3,6 @@ ghost use Rattle.cbor_items.specs.declared.halt.Halt.TheVariants.{Stopped, NoMem
 
 use crate::stop::Stop;
 use net_base::OutOfMemory;
-use std::alloc::AllocFailed;
 
 /// Why a scan does not go on.
 #[derive(Clone, Copy)]

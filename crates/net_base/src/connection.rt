@@ -59,8 +59,8 @@ pub struct Responders {
 /// What is known of one connection.
 #[derive(Clone, Copy, PartialEq, Eq)]
 pub struct Facts {
-    pub cid: Cid,
     pub addr: Addr,
+    pub cid: Cid,
     pub provenance: Provenance,
     pub phase: Phase,
     /// None outside `Negotiated`.

@@ -6,7 +6,7 @@ use crate::node::Node;
 use crate::nodes::Nodes;
 use crate::spread::Spread;
 use io_edge::PieceWriter;
-use net_base::{OutOfMemory, Targets};
+use net_base::OutOfMemory;
 use network_scenario::Kind;
 use std::alloc::Global;
 

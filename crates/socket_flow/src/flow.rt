@@ -8,12 +8,12 @@ use crate::door::Door;
 use crate::due_queue::DueQueue;
 use crate::moments::Moments;
 use crate::roots::Roots;
-use crate::socket::{Socket, Stage, stranger};
+use crate::socket::Stage;
 use crate::socket_table::SocketTable;
 use crate::terms::Terms;
 use crate::turn_queue::TurnQueue;
 use net_base::{Addr, AddrList, Event, Octets, OutOfMemory};
-use node_world::{OutQueue, Waiting};
+use node_world::Waiting;
 use std::alloc::Global;
 use std::collections::VecDeque;
 

@@ -13,7 +13,7 @@ use std::marker::Model;
 // Fewer bytes are looked at one after another, as `memchr` does too by a call of its own.
 const MANY: usize = 32;
 
-// So many of more bytes are.
+// Where there are more, so many of the first ones are looked at before `memchr` is called.
 const NEAR: usize = 16;
 
 /// What stands between the separators of some bytes, but for the pieces that were taken.

@@ -4,7 +4,7 @@ use super::steps::book::Step::{
     IsAsked, IsFirst, IsThere, Leaves, Lists, Succeeds,
 };
 use super::steps::book::{BIG, ORDINARY, Step, run};
-use net_base::{Addr, OutOfMemory, Peer, Temp};
+use net_base::{OutOfMemory, Peer, Temp};
 use peer_book::{Added, MOST_PEERS};
 
 /// A big ledger peer that came in, and to which nothing has happened.
