@@ -1,4 +1,5 @@
 pub mod CauseLemmas
+mod FirstLine
 pub mod FrontLemmas
 pub mod InputLemmas
 pub mod LineLemmas

@@ -1,5 +1,6 @@
-ghost use Rattle.std.specs.Prelude.{◌≡◌, ◌<◌, ◌≤◌, [], ◌∷◌, ◌++◌, nat_le, length, take, drop, Some, None, MatchOption, IfOk, OnOk, OnErr};
+ghost use Rattle.std.specs.Prelude.{◌≡◌, ◌<◌, ◌≤◌, [], ◌∷◌, ◌++◌, nat_le, length, take, drop, Some, None, MatchOption, MatchBool, IfOk, OnOk, OnErr};
 ghost use Rattle.io_edge.specs.Causes.{HasCause};
+ghost use Rattle.io_edge.specs.Lines.{HasNoLineFeed};
 ghost use Rattle.io_edge.specs.Pending.{front_line};
 ghost use Rattle.io_edge.specs.Told.{TakesFront};
 
@@ -88,11 +89,27 @@ impl PieceWriter {
     pub fn first_line(&self) -> Option<&[u8]>
         ensures { MatchOption result (front_line self.now ≡ None) (λ line. front_line self.now ≡ Some line.now) }
     {
-        let pending = &self.bytes[self.done..];
+        let pending = self.pending();
         if pending.is_empty() {
             return None;
         }
         Some(&pending[..line_length(pending)])
+    }
+
+    /// Whether a line, which has no line feed in it, is the first one that is pending.
+    pub fn first_line_is(&self, line: &[u8]) -> bool
+        requires { HasNoLineFeed line.now }
+        ensures { MatchBool result (front_line self.now ≡ Some line.now) (¬ (front_line self.now ≡ Some line.now)) }
+    {
+        let pending = self.pending();
+        if pending.len() < line.len() {
+            return false;
+        }
+        let (front, rest) = pending.split_at(line.len());
+        match rest.first() {
+            Some(next) => *next == b'\n' && front == line,
+            None => !front.is_empty() && front == line,
+        }
     }
 
     /// Gives up the first bytes that are pending, or all where there are no more.
@@ -115,6 +132,12 @@ impl PieceWriter {
         put_from(&mut self.done, &self.bytes, sink)?;
         self.clear();
         Ok(())
+    }
+
+    fn pending(&self) -> &[u8]
+        ensures { result.now ≡ self.now }
+    {
+        &self.bytes[self.done..]
     }
 
     // Gives up all that is pending.

@@ -1,4 +1,5 @@
-ghost use Rattle.std.specs.Prelude.{ℕ, ◌≤◌, List, length, OnOk};
+ghost use Rattle.std.specs.Prelude.{ℕ, List, OnOk};
+ghost use Rattle.io_edge.specs.Lines.{FitsLine};
 ghost use Rattle.line_run.specs.Meaning.{Meaning, IsInterpreted};
 
 use crate::Stop;
@@ -20,7 +21,7 @@ pub trait Interpreter {
     /// One line more, given without its line feed. Says the lines that are to be written for it. Once a line ends the
     /// input, is refused or is one too many, or memory is wanting, nothing more may be asked.
     fn interpret(&mut self, line: &[u8], pieces: &mut PieceWriter) -> Result<(), Stop>
-        requires short { length line.now ≤ 140_000 }
+        requires fits { FitsLine line.now }
         requires holds { holds (state self.old) }
         ensures meant { IsInterpreted (means (state self.old) line.now) (state self.new) pieces.old pieces.new result }
         ensures holds { OnOk result (holds (state self.new)) };

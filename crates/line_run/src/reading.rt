@@ -1,4 +1,5 @@
-ghost use Rattle.std.specs.Prelude.{◌≡◌, ℕ, ◌≤◌, length, MatchResult, OnOk, IfErr};
+ghost use Rattle.std.specs.Prelude.{◌≡◌, ℕ, MatchResult, OnOk, IfErr};
+ghost use Rattle.io_edge.specs.Lines.{FitsLine};
 ghost use Rattle.line_run.specs.LineRead.{line_put, IsLineRead};
 ghost use Rattle.line_run.specs.Runs.{HasReadCount, HasWriteCount};
 
@@ -14,7 +15,7 @@ pub fn read_line<S: Source>(
     src: &mut S,
 ) -> Result<(), LineOutcome>
     ensures read { IsLineRead number reader.old reader.new (S.left src.old) (S.left src.new) (line_put line.new.items result) }
-    ensures short { OnOk result (length line.new.items ≤ 140_000) }
+    ensures fits { OnOk result (FitsLine line.new.items) }
     ensures reads { MatchResult result (λ _. S.faults src.new ≡ S.faults src.old) (HasReadCount (S.faults src.old) (S.faults src.new)) }
     ensures writes { (count : ℕ) → IfErr result (HasWriteCount count count) }
 {

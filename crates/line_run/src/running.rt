@@ -1,5 +1,6 @@
-ghost use Rattle.std.specs.Prelude.{◌≡◌, ℕ, ◌+◌, ◌≤◌, List, [], Option, Some, length, MatchResult, OnOk, IfErr};
+ghost use Rattle.std.specs.Prelude.{◌≡◌, ℕ, ◌+◌, ◌≤◌, List, [], Option, Some, MatchResult, OnOk, IfErr};
 ghost use Rattle.io_edge.specs.Causes.{HasCause};
+ghost use Rattle.io_edge.specs.Lines.{FitsLine};
 ghost use Rattle.io_edge.specs.Told.{Takes, TakesProperPrefix, TakesFront};
 ghost use Rattle.line_run.specs.Inputs.{IsRunOver};
 ghost use Rattle.line_run.specs.LineRead.{line_put};
@@ -180,7 +181,7 @@ fn next_line<I: Interpreter, S: Source, K: Sink>(
     ensures next { (start state : I.State) (left taken : Option (List ℕ)) →
         IsUnderWay I.means start number state reader.old pieces.old left (S.left src.old) taken (K.taken out.old) →
         IsLineNext I.means start number state reader.new pieces.new left (S.left src.new) taken (K.taken out.new) (line_put line.new.items result) }
-    ensures short { OnOk result (length line.new.items ≤ 140_000) }
+    ensures fits { OnOk result (FitsLine line.new.items) }
     ensures reads { MatchResult result (λ _. S.faults src.new ≡ S.faults src.old) (HasReadCount (S.faults src.old) (S.faults src.new)) }
     ensures writes { MatchResult result (λ _. K.faults out.new ≡ K.faults out.old) (HasWriteCount (K.faults out.old) (K.faults out.new)) }
 {
@@ -201,7 +202,7 @@ fn interpret_at<I: Interpreter>(
     line: &[u8],
     pieces: &mut PieceWriter,
 ) -> Result<(), LineOutcome>
-    requires short { length line.now ≤ 140_000 }
+    requires fits { FitsLine line.now }
     requires holds { I.holds (I.state interpreter.old) }
     ensures holds { OnOk result (I.holds (I.state interpreter.new)) }
     ensures said { IsInterpretedAt number (I.means (I.state interpreter.old) line.now) (I.state interpreter.new) pieces.old pieces.new result }

@@ -1,4 +1,5 @@
-ghost use Rattle.std.specs.Prelude.{◌≡◌, ◌<◌, ◌≤◌, ◌+◌, Some, MatchBool, IfOk, length};
+ghost use Rattle.std.specs.Prelude.{◌≡◌, ◌<◌, ◌≤◌, ◌+◌, IfOk, length};
+ghost use Rattle.io_edge.specs.Lines.{HasNoLineFeed};
 ghost use Rattle.io_edge.specs.Pending.{front_line};
 ghost use Rattle.line_run.specs.Meaning.{IsInterpreted};
 ghost use Rattle.trace_play.specs.Checking.{Agreed, agreed, nothing_agreed, passing, ending};
@@ -40,11 +41,12 @@ impl<E: Stepper> Checker<E> {
 
     // A line that passes is the first one that is due, and no longer then, or it differs.
     fn pass(&mut self, line: &[u8], pieces: &mut PieceWriter) -> Result<(), Stop>
+        requires one { HasNoLineFeed line.now }
         requires few { self.old.lines < 4_000_000 }
         ensures { IsInterpreted (passing self.old.lines (kept self.old.playback.stage self.old.playback.heads.items (begun self.old.playback.engine E.machine E.events)) line.now self.old.due (front_line self.old.due))
             (agreed (kept self.new.playback.stage self.new.playback.heads.items (begun self.new.playback.engine E.machine E.events)) self.new.lines self.new.due) pieces.old pieces.new result }
     {
-        if is_first(&self.due, line) {
+        if self.due.first_line_is(line) {
             self.due.skip(line.len() + 1);
             self.lines += 1;
             return Ok(());
@@ -96,15 +98,5 @@ impl<E: Stepper> Interpreter for Checker<E> {
             Err(Stop::Ended) => self.end(events, actions, pieces),
             Err(stop) => Err(stop),
         }
-    }
-}
-
-// Whether a line is the first one that is due.
-fn is_first(due: &PieceWriter, line: &[u8]) -> bool
-    ensures { MatchBool result (front_line due.now ≡ Some line.now) (¬ (front_line due.now ≡ Some line.now)) }
-{
-    match due.first_line() {
-        Some(first) => first == line,
-        None => false,
     }
 }

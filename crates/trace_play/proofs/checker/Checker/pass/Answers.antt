@@ -11,7 +11,7 @@ returns g c =
     let line = c.args.self.now.lines + 1 in
     let text = c.args.line.now in (
       report_lines (differ (record { line = line; found = text; want = front_line c.args.self.now.due })),
-      passing_another c.args.self.now.lines _ text c.args.self.now.due (front_line c.args.self.now.due) c.if-is_first.ensures,
+      passing_another c.args.self.now.lines _ text c.args.self.now.due (front_line c.args.self.now.due) c.if-first_line_is.ensures,
       c.in_ok-tell_difference.ensures.said
           ∙ ap (λ (want : List ℕ). c.args.pieces.now ++ ended_lines ((codes "differ " ++ decimal line) ∷ (codes "found " ++ text) ∷ want ∷ [])) c.wanted.ensures,
     )
