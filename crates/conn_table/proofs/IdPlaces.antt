@@ -150,17 +150,14 @@ place-get above most (g ∷ gs) (suc place) f rises found =
     rw (under_above f g (above_get g.cid.0 most gs place f rises.1 found), one_more (id_place f.cid.0 gs))
     (ap (λ n. suc n) (place-get g.cid.0 most gs place f rises.1 found))
 
--- where the one with an id is found, it stands
-pub place-found : (cid above most : ℕ) (fs : List Facts) (place : ℕ) → IdsRise above most fs → is_some (found_with cid (slice_get fs place)) ≡ true →
-    place ≡ id_place cid fs
-place-found cid above most fs place rises there = by_look (slice_get fs place) refl there
-  where
-    by_look : (o : Option Facts) → slice_get fs place ≡ o → is_some (found_with cid o) ≡ true → place ≡ id_place cid fs
-    by_look None at h = absurd (false≢true h)
-    by_look (Some f) at h = elim (cases_Bool (has_id cid f)) [
-      | inl here ↦ sym (place-get above most fs place f rises at) ∙ ap (λ n. id_place n fs) (has_id_is cid f here)
-      | inr other ↦ absurd (false≢true (rw other at h))
-    ]
+-- a move keeps places
+pub id_place-moved : (cid own : ℕ) (move : Facts → Facts) (fs : List Facts) → ((f : Facts) → (move f).cid ≡ f.cid) →
+    id_place cid (moved_at own move fs) ≡ id_place cid fs
+id_place-moved cid own move [] keeps = refl
+id_place-moved cid own move (f ∷ fs) keeps = elim (cases_Bool (has_id own f)) [
+  | inl here ↦ rw (here, keeps f, id_place-moved cid own move fs keeps) refl
+  | inr other ↦ rw (other, id_place-moved cid own move fs keeps) refl
+]
 
 pub found-get : (above most : ℕ) (fs : List Facts) (place : ℕ) (f : Facts) → IdsRise above most fs → slice_get fs place ≡ Some f →
     facts_at f.cid.0 fs ≡ Some f

@@ -1,4 +1,4 @@
-ghost use Rattle.std.specs.Prelude.{◌≡◌, ◌+◌, ◌++◌, ◌∷◌, ◌<◌, ◌^◌, [], is_some, length, Some, None, OnOk, OnErr, IsSome, IsSomeAnd, slice_get, ℕ, if◌then◌else◌};
+ghost use Rattle.std.specs.Prelude.{◌≡◌, ◌+◌, ◌++◌, ◌∷◌, ◌<◌, ◌^◌, [], length, Some, None, OnOk, OnErr, IsSome, IsSomeAnd, slice_get, ℕ, if◌then◌else◌};
 ghost use Rattle.std.specs.Option.{option_copied};
 ghost use Rattle.conn_state.specs.State.{facts_of};
 ghost use Rattle.conn_state.specs.Use.{facts_at, live_at};
@@ -9,7 +9,7 @@ ghost use Rattle.conn_table.specs.Finds.{id_place, newest, found_with, StandsAt}
 ghost use Rattle.conn_table.specs.Table.{moved_at, without_at};
 
 use crate::step::{Step, stepped};
-use crate::{Placed, PlacedList};
+use crate::{Placed, PlacedList, Recent};
 use chunked_list::ChunkedList;
 use conn_state::facts::{is_counted, is_live};
 use conn_state::{ConnState, ReservedOutbound};
@@ -27,8 +27,8 @@ pub struct Roster {
     pub counted: u64,
     /// How many ids were given.
     pub given: u64,
-    /// Where a connection stood that something happened to: the next look for one begins there. Any number will do.
-    pub recent: usize,
+    /// The connection that something happened to last: a look for it is short.
+    pub recent: Option<Recent>,
 }
 
 impl Roster {
@@ -45,7 +45,7 @@ impl Roster {
             index: PlacedList::new(alloc),
             counted: 0,
             given: 0,
-            recent: 0,
+            recent: None,
         }
     }
 
@@ -117,6 +117,7 @@ impl Roster {
         }
         self.counted = recounted(self.counted, false, is_counted(&facts));
         self.given += 1;
+        self.recent = None;
         Ok(())
     }
 
@@ -147,7 +148,10 @@ impl Roster {
         let new = stepped(old, step);
         self.counted = recounted(self.counted, is_counted(&was), is_counted(new.as_facts()));
         self.states.replace(place, new);
-        self.recent = place;
+        self.recent = Some(Recent {
+            cid: was.cid,
+            place,
+        });
         was
     }
 
@@ -176,6 +180,7 @@ impl Roster {
         let facts = self.states.remove(place).facts();
         self.index.remove(placed(&facts));
         self.counted = recounted(self.counted, is_counted(&facts), false);
+        self.recent = None;
         facts
     }
 
@@ -184,20 +189,11 @@ impl Roster {
         requires { IsKept self.now }
         ensures { result ≡ id_place cid.0 (facts_kept self.now) }
     {
-        if self.is_recent(cid) {
-            return self.recent;
-        }
-        self.states
-            .partition_point(|state| state.as_facts().cid < cid)
-    }
-
-    // Whether the connection at the place where a look begins has an id.
-    fn is_recent(&self, cid: Cid) -> bool
-        ensures { result ≡ is_some (found_with cid.0 (slice_get (facts_kept self.now) self.now.recent)) }
-    {
-        match self.states.get(self.recent) {
-            Some(state) => state.as_facts().cid == cid,
-            None => false,
+        match self.recent {
+            Some(recent) if recent.cid == cid => recent.place,
+            _ => self
+                .states
+                .partition_point(|state| state.as_facts().cid < cid),
         }
     }
 

@@ -15,7 +15,7 @@ ghost use Rattle.net_base.specs.Bounds.{AreSound};
 use crate::roster::Roster;
 use crate::step::Step;
 use crate::{Acquire, GraceEnd, LocalLease, PlacedList};
-use conn_state::facts::{is_acquirable, is_live, is_outbound};
+use conn_state::facts::{is_acquirable, is_outbound};
 use conn_state::names::name_of;
 use conn_state::{ConnState, ReservedOutbound, Unnegotiated};
 use net_base::{Addr, Agreed, Cid, Facts, OutOfMemory, Settings};

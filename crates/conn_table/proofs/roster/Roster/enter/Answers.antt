@@ -50,4 +50,5 @@ returns-clause-kept c =
         count-push is_counted fs f,
         ap counted new,
       );
+      recent = tt;
     }

@@ -85,4 +85,5 @@ returns-clause-kept c =
         count-without is_counted cid 0 roster.given fs was rises found,
         ap counted new,
       );
+      recent = tt;
     }

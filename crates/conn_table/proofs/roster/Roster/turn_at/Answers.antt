@@ -8,7 +8,7 @@ use Rattle.conn_table.specs.Index.{index_of}
 use Rattle.conn_table.specs.Rosters.{facts_kept, OnlyLastLives}
 use Rattle.conn_table.specs.Finds.{id_place}
 use Rattle.conn_table.specs.Table.{IdsRise, without_at}
-use Rattle.conn_table.proofs.IdPlaces.{place-get, found-get, set-place, IdsRise-moved, count-moved, count-without}
+use Rattle.conn_table.proofs.IdPlaces.{place-get, id_place-moved, found-get, set-place, IdsRise-moved, count-moved, count-without}
 use Rattle.conn_table.proofs.IndexFacts.{index_of-moved}
 use Rattle.conn_table.proofs.Lives.{OnlyLastLives-moved}
 use Rattle.conn_table.proofs.StateFacts.{place_inside, was_there, step_keeps, steps_live}
@@ -86,4 +86,6 @@ returns-clause-kept c =
         count-moved is_counted cid 0 kept.given move fs was rises found,
         ap counted new,
       );
+      recent = sym (place-get 0 kept.given fs c.args.place was rises at)
+          ∙ (sym (id_place-moved cid cid move fs (λ f. ap (λ p. p.cid) (step_keeps c.args.step f))) ∙ ap (id_place cid) (sym new));
     }
