@@ -27,9 +27,10 @@ use Rattle.timer_queue.proofs.Rising.{find-replaced}
 use Rattle.links.specs.Link.{place_of}
 use Rattle.links.specs.Rows.{stands_at, HaveSameLinks, with_new, with_link, without_link}
 use Rattle.links.proofs.LinkEdits.{any-new, same-with_link, same-without_link, left_again}
-use Rattle.connections.specs.Linked.{links_in, IsLinked, IsLinkedWith, IsLinkedBut, IsLinkedIf}
+use Rattle.connections.specs.Linked.{links_in, sight_of, IsLinked, IsLinkedWith, IsLinkedBut, IsLinkedIf}
 use Rattle.connections.specs.Standing.{Standing, entry_with, turned, come, gone, Turns}
 use Rattle.connections.specs.Timed.{ids_in, IsTimed}
+use Rattle.connections.specs.declared.sight.Sight.{Sight}
 use Rattle.connections.proofs.TimedTurns.{id_of, turned_in, others_in, stands_as, own_id, found_one, if_found, stands_in, some_of}
 
 abbrev links_of : List Entry → List Link
@@ -161,9 +162,9 @@ has_link cid s links e link but found is =
     ap (λ (l : Link). stands_at (place_of l) links) is ∙ right.there
 
 -- it stands there already
-pub linked_still : (seen : Link) (cid : Cid) (s : Standing) (links : List Link) (e : Entry) → IsLinkedIf seen cid s links → entry_with cid.0 s ≡ Some e →
-    seen ≡ link_of e → IsLinked s links
-linked_still seen cid s links e if found is = if_found (λ x. seen ≡ link_of x → IsLinked s links) (entry_with cid.0 s) e found if is
+pub linked_still : (seen : Sight) (cid : Cid) (s : Standing) (links : List Link) (e : Entry) → IsLinkedIf seen cid s links → entry_with cid.0 s ≡ Some e →
+    sight_of e ≡ seen → IsLinked s links
+linked_still seen cid s links e if found is = if_found (λ x. sight_of x ≡ seen → IsLinked s links) (entry_with cid.0 s) e found if is
 
 -- ---- its link stays
 
@@ -185,29 +186,45 @@ links-same new old (e ∷ es) same found rises = elim (cases_Bool (same_cid e.fa
         let other : same_cid x.facts.cid new.facts.cid ≡ false = grind (arith, nat_tests, above.0) in
         rw other (ap (λ l. link_of x ∷ l) (stays xs above.1))
 
+-- a link by where its connection stands, and what is seen of it
+abbrev link_with : Placed → Sight → Link
+link_with placed seen = record {
+  addr = placed.addr;
+  cid = placed.cid;
+  live = seen.live;
+  acquirable = seen.acquirable;
+  pending = seen.pending;
+  local = seen.local;
+  sharing = seen.sharing;
+  owes2 = seen.owes2;
+  owes8 = seen.owes8;
+  owes10 = seen.owes10;
+}
+
 -- where what is seen of it is what was seen, the links stay
-pub linked_if : (cid : Cid) (change : Entry → Entry) (seen : Link) (old new : Standing) (queue : Queue) (links : List Link) → IsTimed old queue →
-    IsLinked old links → IsSome (entry_with cid.0 old) → ((e : Entry) → (change e).facts.cid ≡ e.facts.cid) →
-    IfSome (entry_with cid.0 old) (λ e. seen ≡ link_of e) → Turns cid.0 change old new → IsLinkedIf seen cid new links
+pub linked_if : (cid : Cid) (change : Entry → Entry) (seen : Sight) (old new : Standing) (queue : Queue) (links : List Link) → IsTimed old queue →
+    IsLinked old links → IsSome (entry_with cid.0 old) → ((e : Entry) → placed_of (change e).facts ≡ placed_of e.facts) →
+    IfSome (entry_with cid.0 old) (λ e. seen ≡ sight_of e) → Turns cid.0 change old new → IsLinkedIf seen cid new links
 linked_if cid change seen old new queue links timed linked there keeps was turns =
     let it = found_one (entry_with cid.0 old) there in
     let e : Entry = change it.0 in
     let is : new ≡ turned e old = if_found (λ x. new ≡ turned (change x) old) (entry_with cid.0 old) it.0 it.1 turns in
-    let before : seen ≡ link_of it.0 = if_found (λ x. seen ≡ link_of x) (entry_with cid.0 old) it.0 it.1 was in
-    let own : e.facts.cid ≡ cid = keeps it.0 ∙ own_id cid old.entries it.0 it.1 in
+    let before : seen ≡ sight_of it.0 = if_found (λ x. seen ≡ sight_of x) (entry_with cid.0 old) it.0 it.1 was in
+    let own : e.facts.cid ≡ cid = ap (λ (p : Placed). p.cid) (keeps it.0) ∙ own_id cid old.entries it.0 it.1 in
     let found : entry_with e.facts.cid.0 old ≡ Some it.0 = ap (λ (c : Cid). entry_with c.0 old) own ∙ it.1 in
     let now : entry_with cid.0 (turned e old) ≡ Some e =
     ap (λ (c : Cid). entry_with c.0 (turned e old)) (sym own)
     ∙ find-replaced cid_below same_cid cid_order id_of e.facts.cid e old.entries (cid_order.same_itself e.facts.cid)
     (sym (stands_as e.facts.cid old.entries) ∙ subst IsSome (sym found) refl) in
     subst (λ s. IsLinkedIf seen cid s links) (sym is)
-    (subst (λ o. IfSome o (λ x. seen ≡ link_of x → IsLinked (turned e old) links)) (sym now) (λ same.
+    (subst (λ o. IfSome o (λ x. sight_of x ≡ seen → IsLinked (turned e old) links)) (sym now) (λ same.
+    let stays : link_of e ≡ link_of it.0 = ap (λ p. link_with p (sight_of e)) (keeps it.0) ∙ ap (link_with (placed_of it.0.facts)) (same ∙ before) in
     subst (HaveSameLinks links)
-    (sym (links-same e it.0 old.entries (sym same ∙ before) found (ids-rise old queue timed))) linked))
+    (sym (links-same e it.0 old.entries stays found (ids-rise old queue timed))) linked))
 
-pub moved_if : (cid : Cid) (P : Entry → Type 0) (change : Entry → Entry) (seen : Link) (s old new : Standing) (queue : Queue) (links : List Link) →
-    IsTimed old queue → IsLinked old links → old ≡ s → IsSomeAnd (entry_with cid.0 s) P → ((e : Entry) → (change e).facts.cid ≡ e.facts.cid) →
-    IfSome (entry_with cid.0 old) (λ e. seen ≡ link_of e) → Turns cid.0 change old new → IsLinkedIf seen cid new links
+pub moved_if : (cid : Cid) (P : Entry → Type 0) (change : Entry → Entry) (seen : Sight) (s old new : Standing) (queue : Queue) (links : List Link) →
+    IsTimed old queue → IsLinked old links → old ≡ s → IsSomeAnd (entry_with cid.0 s) P → ((e : Entry) → placed_of (change e).facts ≡ placed_of e.facts) →
+    IfSome (entry_with cid.0 old) (λ e. seen ≡ sight_of e) → Turns cid.0 change old new → IsLinkedIf seen cid new links
 moved_if cid P change seen s old new queue links timed linked is asked keeps was turns =
     linked_if cid change seen old new queue links timed linked (stands_in cid s old is (some_of P (entry_with cid.0 s) asked)) keeps was turns
 

@@ -11,7 +11,7 @@ use Rattle.conn_table.specs.Rosters.{IsKept, facts_kept}
 use Rattle.conn_table.specs.Table.{IdsRise, moved_at, with_moved, without, without_at}
 use Rattle.conn_table.specs.declared.roster.Roster.{Roster}
 use Rattle.conn_table.specs.declared.step.Step.{Step}
-use Rattle.conn_table.proofs.IdPlaces.{found_id}
+use Rattle.conn_table.proofs.IdPlaces.{found_id, id_place-moved}
 use Rattle.conn_table.proofs.StateFacts.{step_keeps}
 use Rattle.machine.specs.Machine.{Entry}
 use Rattle.net_base.specs.Shared.{nothing_undecoded}
@@ -34,14 +34,16 @@ use Rattle.connections.proofs.TalkTurns.{Any, Found, found, some_one, facts_plac
 pub stands : (kept : Kept) → IsWhole kept → IsStanding (table_of kept.settings kept.roster) kept.talks
 stands kept whole = record { ids_rise = whole.roster_kept.ids_rise; talks_are = whole.talks_are }
 
--- where a look begins is no matter
-pub looked_at : (roster : Roster) (place : ℕ) → IsKept roster → IsKept (record roster { recent = place })
-looked_at roster place kept = record {
+-- where it was looked for last is kept
+pub looked_at : (roster : Roster) (cid : Cid) (place : ℕ) → place ≡ id_place cid.0 (facts_kept roster) → IsKept roster →
+    IsKept (record roster { recent = Some (record { cid = cid; place = place }) })
+looked_at roster cid place found kept = record {
   few = kept.few;
   ids_rise = kept.ids_rise;
   last_lives = kept.last_lives;
   indexed = kept.indexed;
   counted = kept.counted;
+  recent = found;
 }
 
 pub keeps_id : (step : Step) (f : Facts) → (after_step step f).cid ≡ f.cid
@@ -115,19 +117,10 @@ step_turns step cid place kept roster talks was over whole it e same facts given
     (subst (λ b. TurnsAt place (unread_if b) kept.talks talks) shut changed))
     (keeps_id step) (stepped-talk step it.facts it.talk) (still_goes_on (closes step it.facts) it.talk it.at.belongs)
 
--- a move keeps places
-moved_places : (cid own : ℕ) (move : Facts → Facts) (fs : List Facts) → ((f : Facts) → (move f).cid ≡ f.cid) →
-    id_place cid (moved_at own move fs) ≡ id_place cid fs
-moved_places cid own move [] keeps = refl
-moved_places cid own move (f ∷ fs) keeps = elim (cases_Bool (has_id own f)) [
-  | inl here ↦ rw (here, keeps f, moved_places cid own move fs keeps) refl
-  | inr other ↦ rw (other, moved_places cid own move fs keeps) refl
-]
-
 pub still_placed : (step : Step) (cid place own : ℕ) (kept : Kept) (roster : Roster) → place ≡ id_place cid (facts_kept kept.roster) →
     facts_kept roster ≡ moved_at own (after_step step) (facts_kept kept.roster) → place ≡ id_place cid (facts_kept roster)
 still_placed step cid place own kept roster e facts =
-    e ∙ (sym (moved_places cid own (after_step step) (facts_kept kept.roster) (keeps_id step)) ∙ ap (id_place cid) (sym facts))
+    e ∙ (sym (id_place-moved cid own (after_step step) (facts_kept kept.roster) (keeps_id step)) ∙ ap (id_place cid) (sym facts))
 
 -- ---- what is kept beside its facts changes
 

@@ -12,7 +12,7 @@ mod talking;
 
 use crate::kept::Kept;
 use chunked_list::ChunkedList;
-use conn_table::Roster;
+use conn_table::{Recent, Roster};
 use links::Links;
 use net_base::{Addr, Cid, Facts, Settings};
 use prune_order::PruneOrder;
@@ -82,6 +82,16 @@ impl Connections {
         ensures { option_copied result ≡ option_map (λ e. e.facts) (entry_with cid.0 self.now) }
     {
         self.kept.roster.facts(cid)
+    }
+
+    /// The same, so that the next look for the connection is short.
+    pub fn look_up(&mut self, cid: Cid) -> Option<Facts>
+        ensures found { result ≡ option_map (λ e. e.facts) (entry_with cid.0 self.old) }
+        ensures same { self.new ≡ self.old }
+    {
+        let place = self.kept.roster.place_of(cid);
+        self.kept.roster.recent = Some(Recent { cid, place });
+        self.kept.roster.facts(cid).copied()
     }
 
     /// The live connection of an address. None where there is none.

@@ -4,22 +4,21 @@ ghost use Rattle.conn_state.specs.State.{facts_of};
 ghost use Rattle.conn_state.specs.Use.{live_at};
 ghost use Rattle.conn_table.specs.Finds.{id_place};
 ghost use Rattle.conn_table.specs.Rosters.{facts_kept};
-ghost use Rattle.connections.specs.Linked.{IsLinked, IsLinkedBut, IsLinkedIf};
+ghost use Rattle.connections.specs.Linked.{IsLinked, IsLinkedBut, IsLinkedIf, sight_of};
 ghost use Rattle.connections.specs.Ordered.{reranked};
 ghost use Rattle.connections.specs.Standing.{come, entry_with};
-ghost use Rattle.machine.specs.Govern.{link_of};
 ghost use Rattle.connections.specs.Timed.{IsTimed, IsTimedBut};
 ghost use Rattle.prune_order.specs.Order.{stands};
 
 use crate::link::link_of;
+use crate::sight::{Sight, sight_of};
 use crate::talk::Talk;
 use crate::timed::retime;
 use accept_gate::rank;
 use chunked_list::ChunkedList;
 use conn_state::ConnState;
 use conn_table::Roster;
-use govern_rules::Link;
-use links::{Links, is_same};
+use links::Links;
 use net_base::{Cid, Facts, OutOfMemory, Settings};
 use prune_order::PruneOrder;
 use std::alloc::Global;
@@ -64,15 +63,15 @@ impl Kept {
     }
 
     // What the rules see of a connection that stands at a place.
-    pub fn link(&self, cid: Cid, place: usize) -> Link
+    pub fn sight(&self, cid: Cid, place: usize) -> Sight
         requires whole { IsWhole self.now }
         requires place { place ≡ id_place cid.0 (facts_kept self.now.roster) }
         requires stands { IsSome (entry_with cid.0 (standing self.now)) }
-        ensures { IfSome (entry_with cid.0 (standing self.now)) (λ e. result ≡ link_of e) }
+        ensures { IfSome (entry_with cid.0 (standing self.now)) (λ e. result ≡ sight_of e) }
     {
         let facts = self.roster.at(place);
         let talk = self.talks.at(place);
-        link_of(facts, &talk.replies)
+        sight_of(facts, &talk.replies)
     }
 
     // The deadlines of a connection are its timers, and what the rules see of it is its link. Most moves leave what was seen of
@@ -81,7 +80,7 @@ impl Kept {
         &self,
         cid: Cid,
         place: usize,
-        seen: &Link,
+        seen: Sight,
         timers: &mut TimerQueue,
         links: &mut Links,
     )
@@ -89,18 +88,17 @@ impl Kept {
         requires place { place ≡ id_place cid.0 (facts_kept self.now.roster) }
         requires timed { IsTimedBut cid (standing self.now) timers.old }
         requires linked { IsLinkedBut cid (standing self.now) links.old }
-        requires stays { IsLinkedIf seen.now cid (standing self.now) links.old }
+        requires stays { IsLinkedIf seen cid (standing self.now) links.old }
         ensures timed { IsTimed (standing self.now) timers.new }
         ensures linked { IsLinked (standing self.now) links.new }
     {
         let facts = self.roster.at(place);
         let talk = self.talks.at(place);
         retime(timers, facts, &talk.replies);
-        let link = link_of(facts, &talk.replies);
-        if is_same(&link, seen) {
+        if sight_of(facts, &talk.replies) == seen {
             return;
         }
-        links.set(link);
+        links.set(link_of(facts, &talk.replies));
     }
 }
 

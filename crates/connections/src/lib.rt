@@ -7,6 +7,7 @@ mod kept;
 mod link;
 mod replies;
 mod reply;
+mod sight;
 mod talk;
 mod timed;
 

@@ -3,7 +3,7 @@ ghost use Rattle.machine.specs.Govern.{link_of};
 ghost use Rattle.net_base.specs.Shared.{nothing_undecoded};
 
 use crate::replies::Replies;
-use conn_state::facts::{is_acquirable, is_live, is_pending, is_sharing};
+use crate::sight::sight_of;
 use govern_rules::Link;
 use net_base::Facts;
 
@@ -11,16 +11,17 @@ use net_base::Facts;
 pub fn link_of(facts: &Facts, replies: &Replies) -> Link
     ensures { result ≡ link_of (record { facts = facts.now; undecoded = nothing_undecoded; owed = replies.now }) }
 {
+    let sight = sight_of(facts, replies);
     Link {
         addr: facts.addr,
         cid: facts.cid,
-        live: is_live(facts),
-        acquirable: is_acquirable(facts),
-        pending: is_pending(facts),
-        local: facts.local,
-        sharing: is_sharing(facts),
-        owes2: replies.on(2).is_some(),
-        owes8: replies.on(8).is_some(),
-        owes10: replies.on(10).is_some(),
+        live: sight.live,
+        acquirable: sight.acquirable,
+        pending: sight.pending,
+        local: sight.local,
+        sharing: sight.sharing,
+        owes2: sight.owes2,
+        owes8: sight.owes8,
+        owes10: sight.owes10,
     }
 }

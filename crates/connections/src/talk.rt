@@ -61,12 +61,13 @@ pub fn swap_cutter(
     old
 }
 
-// New bytes of a stream that goes on. Where memory is refused, nothing of it is left.
+// New bytes of a stream that goes on. Where memory is refused, nothing of it is left. The items stand in memory that is given.
 pub fn feed_at(
     talks: &mut ChunkedList<Talk>,
     place: usize,
     alloc: Global,
     bytes: &[u8],
+    memory: PackedItems,
 ) -> Result<Decoded, OutOfMemory>
     requires inside { place < length talks.old }
     requires goes_on { IfSome (slice_get talks.old place) (λ t. t.cutter.fault ≡ None) }
@@ -77,7 +78,7 @@ pub fn feed_at(
 {
     let talk = take_out(talks, place, alloc);
     let Talk { cutter, replies } = talk;
-    match feed(cutter, alloc, bytes) {
+    match feed(cutter, alloc, bytes, memory) {
         Ok((cutter, fed)) => {
             put_back(talks, place, Talk { cutter, replies });
             Ok(fed)
@@ -91,12 +92,18 @@ pub fn feed_at(
 }
 
 // New bytes of a stream that goes on, and the cutter with which it does.
-fn feed(cutter: Cutter, alloc: Global, bytes: &[u8]) -> Result<(Cutter, Decoded), OutOfMemory>
+fn feed(
+    cutter: Cutter,
+    alloc: Global,
+    bytes: &[u8],
+    memory: PackedItems,
+) -> Result<(Cutter, Decoded), OutOfMemory>
     requires { cutter.fault ≡ None }
     ensures next { IfOk result (λ r. r.0 ≡ going_on (fed_by node_limits cutter bytes.now).state) }
     ensures fed { IfOk result (λ r. IsFed (fed_by node_limits cutter bytes.now) r.1) }
 {
-    let mut items = PackedItems::new(alloc);
+    let mut items = memory;
+    items.clear();
     let (cutter, fault) = cutter.feed_into(bytes, &mut items)?;
     let cutter = next_cutter(alloc, cutter, fault);
     Ok((cutter, Decoded { items, fault }))

@@ -1,7 +1,7 @@
 -- The list of links, after an edit: its order, and what some of them pass.
 use Rattle.std.proofs.Common.{◌≡◌, ℕ, ◌<◌, Bool, true, false, not, ◌&&◌, ◌||◌, if◌then◌else◌, List, [], ◌∷◌, map, filter, length, set, Result, Ok, Err, OnOk, OnErr, refl, sym, ap, subst, ◌∙◌, inl, inr}
 use Rattle.std.specs.List.{prefix_len, insert, remove, list_any}
-use Rattle.std.proofs.lemmas.Bool.{cases_Bool, or_parts, and_parts, false≢true}
+use Rattle.std.proofs.lemmas.Bool.{cases_Bool, or_parts}
 use Rattle.conn_table.specs.Index.{placed_below, same_placed}
 use Rattle.conn_table.specs.declared.placed.Placed.{Placed}
 use Rattle.conn_table.proofs.PlacedOrder.{placed_irreflexive, placed_transitive, placed_connected, same_placed-is, same_placed-itself}
@@ -9,7 +9,7 @@ use Rattle.govern_rules.specs.declared.link.Link.{Link}
 use Rattle.timer_queue.specs.Order.{IsRising}
 use Rattle.timer_queue.proofs.Orders.{IsOrder}
 use Rattle.timer_queue.proofs.Rising.{insert-place, set-place, remove-place, place-inside, IsRising-put_in, IsRising-filter, IsRising-map, IsRising-from_map, map-replaced, any-put_in}
-use Rattle.links.specs.Link.{place_of, agree, same_use, same_owed, same_link}
+use Rattle.links.specs.Link.{place_of}
 use Rattle.links.specs.Rows.{AreInOrder, stands_at, HaveSameLinks, with_new, with_link, without_link}
 
 pub placed_order : IsOrder placed_below same_placed
@@ -139,34 +139,3 @@ pub same-without_link : (placed : Placed) (links others : List Link) → HaveSam
 same-without_link placed links others same test =
     let kept : Link → Bool = λ l. not (same_placed (place_of l) placed) in
     any-filter kept test links ∙ (same (λ l. kept l && test l) ∙ sym (any-filter kept test others))
-
--- ---- one is the other
-
-agree-is : (a b : Bool) → agree a b ≡ true → a ≡ b
-agree-is true b h = sym h
-agree-is false true h = absurd (false≢true h)
-agree-is false false h = refl
-
-pub same_link-is : (a b : Link) → same_link a b ≡ true → a ≡ b
-same_link-is a b h =
-    let parts = and_parts (same_use a b && same_owed a b) (same_placed (place_of a) (place_of b)) h in
-    let flags = and_parts (same_use a b) (same_owed a b) parts.0 in
-    let use_is = and_parts (agree a.live b.live && agree a.acquirable b.acquirable) _ flags.0 in
-    let first = and_parts (agree a.live b.live) (agree a.acquirable b.acquirable) use_is.0 in
-    let second = and_parts (agree a.pending b.pending) _ use_is.1 in
-    let third = and_parts (agree a.local b.local) (agree a.sharing b.sharing) second.1 in
-    let owed = and_parts (agree a.owes2 b.owes2) _ flags.1 in
-    let rest = and_parts (agree a.owes8 b.owes8) (agree a.owes10 b.owes10) owed.1 in
-    let at : place_of a ≡ place_of b = same_placed-is (place_of a) (place_of b) parts.1 in
-    λ i. record {
-      addr = (at i).addr;
-      cid = (at i).cid;
-      live = agree-is a.live b.live first.0 i;
-      acquirable = agree-is a.acquirable b.acquirable first.1 i;
-      pending = agree-is a.pending b.pending second.0 i;
-      local = agree-is a.local b.local third.0 i;
-      sharing = agree-is a.sharing b.sharing third.1 i;
-      owes2 = agree-is a.owes2 b.owes2 owed.0 i;
-      owes8 = agree-is a.owes8 b.owes8 rest.0 i;
-      owes10 = agree-is a.owes10 b.owes10 rest.1 i;
-    }

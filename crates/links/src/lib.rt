@@ -5,5 +5,5 @@ mod link;
 mod link_row;
 mod linked;
 
-pub use link::{is_same, place_of};
+pub use link::place_of;
 pub use linked::Links;

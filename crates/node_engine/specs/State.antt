@@ -4,6 +4,7 @@ use Rattle.conn_state.specs.Names.{name_of, same_name}
 use Rattle.net_base.specs.declared.action.Action.{Action}
 use Rattle.net_base.specs.declared.action.Action.TheVariants.{Peer as TellPeer, State, Send}
 use Rattle.net_base.specs.declared.action.PeerNote.TheVariants.{Known}
+use Rattle.net_base.specs.declared.action.StateName.{StateName}
 use Rattle.net_base.specs.declared.address.Addr.{Addr}
 use Rattle.net_base.specs.declared.connection.Cid.{Cid}
 use Rattle.net_base.specs.declared.connection.Facts.{Facts}
@@ -70,8 +71,11 @@ abbrev pub known_notices : List Addr → List Action
 known_notices = map (λ addr. TellPeer addr Known)
 
 -- a connection's name, where it is another one than before
+abbrev pub told_name : Facts → StateName → List Action
+told_name old name = if same_name (name_of old) name then [] else State old.cid name ∷ []
+
 abbrev pub name_notice : Facts → Facts → List Action
-name_notice old new = if same_name (name_of old) (name_of new) then [] else State old.cid (name_of new) ∷ []
+name_notice old new = told_name old (name_of new)
 
 -- ---- parts of moves
 

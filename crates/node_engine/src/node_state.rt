@@ -18,6 +18,7 @@ mod moves;
 
 use crate::Tally;
 use connections::Connections;
+use mux_segment::PackedItems;
 use net_base::{ActionList, Addr, Event, Ip, OutOfMemory, Peer, Settings};
 use peers::Peers;
 use pick_policy::{Picker, RankedPicker};
@@ -32,6 +33,8 @@ pub struct NodeState {
     moment: u64,
     peers: Peers,
     connections: Connections,
+    // memory in which the items of an event stand
+    memory: PackedItems,
 }
 
 impl Model for NodeState {
@@ -57,6 +60,7 @@ impl NodeState {
             moment: 0,
             peers: Peers::new(alloc),
             connections: Connections::new(alloc, settings),
+            memory: PackedItems::new(alloc),
         }
     }
 

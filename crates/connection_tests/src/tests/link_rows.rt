@@ -3,7 +3,7 @@ ghost use Rattle.std.specs.Prelude.{◌≡◌, []};
 use super::AT_3002;
 use conn_table::Placed;
 use govern_rules::Link;
-use links::{Links, is_same, place_of};
+use links::{Links, place_of};
 use net_base::Cid;
 use std::test::Fail;
 
@@ -48,8 +48,6 @@ fn a_link_comes_turns_and_goes(rt: HostRuntime) -> Result<(), Fail> {
 }
 
 #[test]
-fn links_are_told_apart(rt: HostRuntime) {
+fn a_link_has_the_place_of_its_connection(rt: HostRuntime) {
     assert!(&rt; place_of(&PENDING) == PLACE);
-    assert!(&rt; is_same(&PENDING, &PENDING));
-    assert!(&rt; !is_same(&PENDING, &ACQUIRABLE));
 }

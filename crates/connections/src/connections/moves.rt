@@ -1,5 +1,6 @@
-ghost use Rattle.std.specs.Prelude.{◌≡◌, ◌≤◌, ◌+◌, ◌^◌, false, None, IsSomeAnd, IsSome, IfOk, OnOk, OnErr};
+ghost use Rattle.std.specs.Prelude.{◌≡◌, ◌≤◌, ◌+◌, ◌^◌, false, None, IsSomeAnd, IsSome, IfSome, IfOk, OnOk, OnErr};
 ghost use Rattle.conn_state.specs.Moves.{accepted, dialing};
+ghost use Rattle.conn_state.specs.Names.{name_of};
 ghost use Rattle.conn_state.specs.State.{facts_of};
 ghost use Rattle.conn_state.specs.Use.{live_at};
 ghost use Rattle.conn_table.specs.Answers.{any_at};
@@ -16,11 +17,12 @@ use crate::link::link_of;
 use crate::replies::Replies;
 use crate::talk::unread_at;
 use crate::timed::retime;
+use conn_state::names::name_of;
 use conn_state::{ConnState, ReservedOutbound, Unnegotiated};
 use conn_table::{Placed, Step};
 use govern_rules::Link;
 use links::{Links, place_of};
-use net_base::{Addr, Cid, Facts, OutOfMemory};
+use net_base::{Addr, Cid, Facts, OutOfMemory, StateName};
 use timer_queue::TimerQueue;
 
 impl Connections {
@@ -56,18 +58,20 @@ impl Connections {
         Ok(cid)
     }
 
-    /// A connection makes a move that it has. Where this side closes it by that, what came in and is not decoded is dropped.
-    pub fn turn(&mut self, cid: Cid, step: Step)
+    /// A connection makes a move that it has. The answer is its name then. Where this side closes it by that, what came in and is not decoded is dropped.
+    pub fn turn(&mut self, cid: Cid, step: Step) -> StateName
         requires { IsSomeAnd (entry_with cid.0 self.old) (λ e. CanStep step e.facts) }
-        ensures { Turns cid.0 (stepped step) self.old self.new }
+        ensures turns { Turns cid.0 (stepped step) self.old self.new }
+        ensures name { IfSome (entry_with cid.0 self.new) (λ e. result ≡ name_of e.facts) }
     {
         let place = self.kept.roster.place_of(cid);
-        let seen = self.kept.link(cid, place);
+        let seen = self.kept.sight(cid, place);
         let was = self.kept.roster.turn_at(place, step);
         unread_at(&mut self.kept.talks, place, self.alloc, closes(step, &was));
         rerank(&mut self.kept.order, &was, self.kept.roster.at(place));
         self.kept
-            .follow(cid, place, &seen, &mut self.timers, &mut self.links);
+            .follow(cid, place, seen, &mut self.timers, &mut self.links);
+        name_of(self.kept.roster.at(place))
     }
 
     /// A connection goes.

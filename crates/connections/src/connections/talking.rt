@@ -9,7 +9,8 @@ ghost use Rattle.connections.specs.Talks.{IsFed};
 use super::Connections;
 use crate::talk::{feed_at, owe_at, pay_at};
 use crate::{Decoded, Reply};
-use mux_segment::LentItem;
+use conn_table::Recent;
+use mux_segment::{LentItem, PackedItems};
 use net_base::{Cid, OutOfMemory};
 
 impl Connections {
@@ -32,10 +33,10 @@ impl Connections {
         let place = self.kept.roster.place_of(cid);
         let until = now + self.kept.settings.reply;
         let reply = Reply { until, asked };
-        let seen = self.kept.link(cid, place);
+        let seen = self.kept.sight(cid, place);
         owe_at(&mut self.kept.talks, place, self.alloc, protocol, reply);
         self.kept
-            .follow(cid, place, &seen, &mut self.timers, &mut self.links);
+            .follow(cid, place, seen, &mut self.timers, &mut self.links);
     }
 
     /// The reply on a protocol is there.
@@ -44,10 +45,10 @@ impl Connections {
         ensures { Turns cid.0 (paid protocol) self.old self.new }
     {
         let place = self.kept.roster.place_of(cid);
-        let seen = self.kept.link(cid, place);
+        let seen = self.kept.sight(cid, place);
         pay_at(&mut self.kept.talks, place, self.alloc, protocol);
         self.kept
-            .follow(cid, place, &seen, &mut self.timers, &mut self.links);
+            .follow(cid, place, seen, &mut self.timers, &mut self.links);
     }
 
     /// The first item that bytes of a connection would make whole, lent, where nothing that came in before waits and it is
@@ -61,8 +62,13 @@ impl Connections {
     }
 
     /// Bytes come in on a connection: the items that they make whole, up to the first fault. Where memory is refused,
-    /// what came in and was not decoded is lost.
-    pub fn feed(&mut self, cid: Cid, bytes: &[u8]) -> Result<Decoded, OutOfMemory>
+    /// what came in and was not decoded is lost. The items stand in memory that is given, in place of what it held.
+    pub fn feed(
+        &mut self,
+        cid: Cid,
+        bytes: &[u8],
+        memory: PackedItems,
+    ) -> Result<Decoded, OutOfMemory>
         requires { IsSome (entry_with cid.0 self.old) }
         ensures turns { OnOk result (Turns cid.0 (fed_entry bytes.now) self.old self.new) }
         ensures err { OnErr result (Turns cid.0 unread self.old self.new) }
@@ -70,7 +76,7 @@ impl Connections {
     {
         // no deadline comes or goes, and no link changes
         let place = self.kept.roster.place_of(cid);
-        self.kept.roster.recent = place;
-        feed_at(&mut self.kept.talks, place, self.alloc, bytes)
+        self.kept.roster.recent = Some(Recent { cid, place });
+        feed_at(&mut self.kept.talks, place, self.alloc, bytes, memory)
     }
 }

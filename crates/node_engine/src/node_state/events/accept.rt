@@ -24,7 +24,7 @@ impl NodeState {
         }
         match self.live(addr) {
             None => self.admit(addr, actions),
-            Some(facts) if is_pending(&facts) => self.cross(addr, facts, actions),
+            Some(facts) if is_pending(&facts) => self.cross(addr, &facts, actions),
             Some(_) => actions.push(Action::Turnaway(Away::Present)),
         }
     }
@@ -33,13 +33,13 @@ impl NodeState {
     fn cross(
         &mut self,
         addr: Addr,
-        facts: Facts,
+        facts: &Facts,
         actions: &mut ActionList,
     ) -> Result<(), OutOfMemory>
         requires orderly { IsOrderly self.old }
         requires few_ids { self.old.next_id ≤ 2 ^ 48 }
         requires room { counted_in self.old < self.old.settings.hard }
-        requires live { IsSomeAnd (live_entry_at addr self.old) (λ e. e.facts ≡ facts) }
+        requires live { IsSomeAnd (live_entry_at addr self.old) (λ e. e.facts ≡ facts.now) }
         requires by_id { IfSome (live_entry_at addr self.old) (λ e. entry_at e.facts.cid.0 self.old ≡ Some e) }
         ensures { OnOk result (IfSome (live_entry_at addr self.old)
             (λ e. Does (crossed addr e self.old) actions.old self.new actions.new)) }

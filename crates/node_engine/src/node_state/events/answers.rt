@@ -11,7 +11,7 @@ use crate::node_state::moves::tell_known;
 use connections::Reply;
 use mux_segment::LentItem;
 use net_base::protocol::{CHAIN_SYNC, KEEP_ALIVE};
-use net_base::{ActionList, Cid, CloseCause, Facts, FaultKind, OutOfMemory, Temp};
+use net_base::{ActionList, CloseCause, Facts, FaultKind, OutOfMemory, Temp};
 use std::alloc::Global;
 use warm_messages::{Alive, Share, item_number, read_alive, read_share};
 
@@ -19,12 +19,12 @@ impl NodeState {
     /// The other side answers.
     pub(crate) fn take_answer(
         &mut self,
-        facts: Facts,
+        facts: &Facts,
         item: &LentItem<'_>,
         actions: &mut ActionList,
     ) -> Result<(), OutOfMemory>
-        requires { IsKnown facts self.old }
-        ensures { OnOk result (DoesTo facts.cid.0 (λ e. answered_as (reply_on item.now.id e) (lent item.now) e) actions.old self.old self.new actions.new) }
+        requires { IsKnown facts.now self.old }
+        ensures { OnOk result (DoesTo facts.now.cid.0 (λ e. answered_as (reply_on item.now.id e) (lent item.now) e) actions.old self.old self.new actions.new) }
     {
         match self.connections.reply(facts.cid, item.id) {
             Some(reply) => self.take_owed(facts, reply, item, actions),
@@ -35,13 +35,13 @@ impl NodeState {
     // The other side answers on a protocol on which a reply is owed.
     fn take_owed(
         &mut self,
-        facts: Facts,
+        facts: &Facts,
         reply: Reply,
         item: &LentItem<'_>,
         actions: &mut ActionList,
     ) -> Result<(), OutOfMemory>
-        requires { IsKnown facts self.old }
-        ensures { OnOk result (DoesTo facts.cid.0
+        requires { IsKnown facts.now self.old }
+        ensures { OnOk result (DoesTo facts.now.cid.0
             (answered_as (Some (record { protocol = item.now.id; until = reply.until; asked = reply.asked })) (lent item.now))
             actions.old self.old self.new actions.new) }
     {
@@ -55,11 +55,11 @@ impl NodeState {
     // What a reply brings.
     fn bring(
         &mut self,
-        facts: Facts,
+        facts: &Facts,
         item: &LentItem<'_>,
         actions: &mut ActionList,
     ) -> Result<(), OutOfMemory>
-        ensures { OnOk result (Does (brings item.now.id item.now.body.now (fresh_entry facts) self.old) actions.old self.new actions.new) }
+        ensures { OnOk result (Does (brings item.now.id item.now.body.now (fresh_entry facts.now) self.old) actions.old self.new actions.new) }
     {
         match item.id {
             CHAIN_SYNC => self.peer_becomes(Temp::Hot, facts.addr, actions),

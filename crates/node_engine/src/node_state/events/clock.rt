@@ -54,12 +54,12 @@ impl NodeState {
         };
         match deadline.kind {
             Kind::Handshake => {
-                self.end(facts, CloseCause::Fault(FaultKind::HandshakeWait), actions)
+                self.end(&facts, CloseCause::Fault(FaultKind::HandshakeWait), actions)
             }
-            Kind::Grace => self.grace_over(facts, actions),
-            Kind::TimeWait => self.let_go(facts, actions),
+            Kind::Grace => self.grace_over(&facts, actions),
+            Kind::TimeWait => self.let_go(&facts, actions),
             Kind::Reply2 | Kind::Reply8 | Kind::Reply10 => {
-                self.end(facts, CloseCause::Fault(FaultKind::ReplyWait), actions)
+                self.end(&facts, CloseCause::Fault(FaultKind::ReplyWait), actions)
             }
         }
     }

@@ -11,8 +11,8 @@ impl NodeState {
     pub(crate) fn close(&mut self, cid: Cid, actions: &mut ActionList) -> Result<(), OutOfMemory>
         ensures { OnOk result (Does (peer_closes cid self.old) actions.old self.new actions.new) }
     {
-        match self.found(cid) {
-            Some(facts) if is_live(&facts) => self.vanish(facts, actions),
+        match self.look_up(cid) {
+            Some(facts) if is_live(&facts) => self.vanish(&facts, actions),
             Some(_) | None => Ok(()),
         }
     }

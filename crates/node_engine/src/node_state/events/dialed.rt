@@ -16,10 +16,10 @@ impl NodeState {
     ) -> Result<(), OutOfMemory>
         ensures { OnOk result (Does (dial_ends cid opened self.old) actions.old self.new actions.new) }
     {
-        match self.found(cid) {
+        match self.look_up(cid) {
             Some(facts) if !is_dialing(&facts) => Ok(()),
-            Some(facts) if opened => self.dial_opens(facts, actions),
-            Some(facts) => self.vanish(facts, actions),
+            Some(facts) if opened => self.dial_opens(&facts, actions),
+            Some(facts) => self.vanish(&facts, actions),
             None => Ok(()),
         }
     }

@@ -22,13 +22,13 @@ impl NodeState {
     /// What an item comes to in the handshake of a connection.
     pub(crate) fn received(
         &self,
-        facts: Facts,
+        facts: &Facts,
         item: &LentItem<'_>,
     ) -> Result<Received, OutOfMemory>
         ensures received { IfOk result (λ received. received
-            ≡ receives Received.Fault Received.Decided (role_of facts.provenance) (own_info self.now.settings) (lent item.now)) }
+            ≡ receives Received.Fault Received.Decided (role_of facts.now.provenance) (own_info self.now.settings) (lent item.now)) }
         ensures answerable { IfOk result CanBeAnswered }
-        ensures may { IfOk result (λ received. CanFollow received facts) }
+        ensures may { IfOk result (λ received. CanFollow received facts.now) }
     {
         let own = own_info(self.connections.settings());
         receive(self.alloc, role_of(facts.provenance), &own, item)
@@ -37,15 +37,15 @@ impl NodeState {
     /// What an item came to in the handshake is carried out.
     pub(crate) fn greet_as(
         &mut self,
-        facts: Facts,
+        facts: &Facts,
         received: Received,
         actions: &mut ActionList,
     ) -> Result<(), OutOfMemory>
-        requires known { IsKnown facts self.old }
-        requires greeting { is_greeting facts ≡ true }
+        requires known { IsKnown facts.now self.old }
+        requires greeting { is_greeting facts.now ≡ true }
         requires answerable { CanBeAnswered received }
-        requires may { CanFollow received facts }
-        ensures { OnOk result (DoesTo facts.cid.0 (greeted_as received) actions.old self.old self.new actions.new) }
+        requires may { CanFollow received facts.now }
+        ensures { OnOk result (DoesTo facts.now.cid.0 (greeted_as received) actions.old self.old self.new actions.new) }
     {
         match received {
             Received::Decided(verdict) => self.decide(facts, verdict, actions),
@@ -56,15 +56,15 @@ impl NodeState {
     // A verdict is told where it has an answer, and carried out.
     fn decide(
         &mut self,
-        facts: Facts,
+        facts: &Facts,
         verdict: Verdict,
         actions: &mut ActionList,
     ) -> Result<(), OutOfMemory>
-        requires known { IsKnown facts self.old }
-        requires greeting { is_greeting facts ≡ true }
+        requires known { IsKnown facts.now self.old }
+        requires greeting { is_greeting facts.now ≡ true }
         requires answerable { CanAnswer verdict }
-        requires may { CanJudge verdict facts }
-        ensures { OnOk result (DoesTo facts.cid.0 (decided verdict) actions.old self.old self.new actions.new) }
+        requires may { CanJudge verdict facts.now }
+        ensures { OnOk result (DoesTo facts.now.cid.0 (decided verdict) actions.old self.old self.new actions.new) }
     {
         let own = own_info(self.connections.settings());
         let Some(octets) = answer(self.alloc, &verdict, &own)? else {
@@ -77,14 +77,14 @@ impl NodeState {
     // A verdict is carried out.
     fn follow_verdict(
         &mut self,
-        facts: Facts,
+        facts: &Facts,
         verdict: Verdict,
         actions: &mut ActionList,
     ) -> Result<(), OutOfMemory>
-        requires known { IsKnown facts self.old }
-        requires greeting { is_greeting facts ≡ true }
-        requires may { CanJudge verdict facts }
-        ensures { OnOk result (DoesTo facts.cid.0 (judged verdict) actions.old self.old self.new actions.new) }
+        requires known { IsKnown facts.now self.old }
+        requires greeting { is_greeting facts.now ≡ true }
+        requires may { CanJudge verdict facts.now }
+        ensures { OnOk result (DoesTo facts.now.cid.0 (judged verdict) actions.old self.old self.new actions.new) }
     {
         match verdict {
             // the connection is kept for the other side

@@ -15,7 +15,11 @@ use crate::NodeState;
 use connections::Decoded;
 use hs_receive::{Received, kind_of};
 use mux_segment::{CutFault, LentItem, PackedItems};
-use net_base::{ActionList, Cid, CloseCause, Facts, FaultKind, OutOfMemory, Phase};
+use net_base::{ActionList, Cid, CloseCause, Facts, OutOfMemory, Phase};
+use std::mem;
+
+// Memory of more items than these is given up once they were handled.
+const FEW: usize = 64;
 
 impl NodeState {
     /// Bytes come in on a connection. Nothing comes in on a socket that is not open.
@@ -27,11 +31,11 @@ impl NodeState {
     ) -> Result<(), OutOfMemory>
         ensures { OnOk result (Does (bytes_come_in cid bytes.now self.old) actions.old self.new actions.new) }
     {
-        let Some(facts) = self.found(cid) else {
+        let Some(facts) = self.look_up(cid) else {
             return Ok(());
         };
         match facts.phase {
-            Phase::Greeting(_) => self.feed_greeting(facts, bytes, actions),
+            Phase::Greeting(_) => self.feed_greeting(&facts, bytes, actions),
             Phase::Negotiated => self.feed_all(cid, bytes, actions),
             Phase::Dialing | Phase::Closing(_) => Ok(()),
         }
@@ -41,14 +45,14 @@ impl NodeState {
     // easily seen.
     fn feed_greeting(
         &mut self,
-        facts: Facts,
+        facts: &Facts,
         bytes: &[u8],
         actions: &mut ActionList,
     ) -> Result<(), OutOfMemory>
-        requires known { IsKnown facts self.old }
-        requires greeting { is_greeting facts ≡ true }
+        requires known { IsKnown facts.now self.old }
+        requires greeting { is_greeting facts.now ≡ true }
         ensures { OnOk result
-            (DoesTo facts.cid.0 (feeds bytes.now) actions.old self.old self.new actions.new) }
+            (DoesTo facts.now.cid.0 (feeds bytes.now) actions.old self.old self.new actions.new) }
     {
         let Some(item) = self.connections.first(facts.cid, bytes) else {
             return self.feed_all(facts.cid, bytes, actions);
@@ -64,22 +68,23 @@ impl NodeState {
     // All is taken, and what the first item came to is carried out before the others are handled.
     fn feed_behind(
         &mut self,
-        facts: Facts,
+        facts: &Facts,
         received: Received,
         bytes: &[u8],
         actions: &mut ActionList,
     ) -> Result<(), OutOfMemory>
-        requires known { IsKnown facts self.old }
-        requires greeting { is_greeting facts ≡ true }
+        requires known { IsKnown facts.now self.old }
+        requires greeting { is_greeting facts.now ≡ true }
         requires answerable { CanBeAnswered received }
-        requires may { CanFollow received facts }
+        requires may { CanFollow received facts.now }
         ensures { OnOk result
-            (DoesTo facts.cid.0 (feeds_as received bytes.now) actions.old self.old self.new actions.new) }
+            (DoesTo facts.now.cid.0 (feeds_as received bytes.now) actions.old self.old self.new actions.new) }
     {
         let fed = self.decode(facts.cid, bytes)?;
         self.greet_as(facts, received, actions)?;
         self.handle_from(facts.cid, &fed.items, 1, actions)?;
-        self.fail_by(facts.cid, fed.fault, actions)
+        let fault = self.give_back(fed);
+        self.fail_by(facts.cid, fault, actions)
     }
 
     // Each item is handled before the next one, and a fault of the stream after the items before it.
@@ -95,7 +100,8 @@ impl NodeState {
     {
         let fed = self.decode(cid, bytes)?;
         self.handle_from(cid, &fed.items, 0, actions)?;
-        self.fail_by(cid, fed.fault, actions)
+        let fault = self.give_back(fed);
+        self.fail_by(cid, fault, actions)
     }
 
     // The new bytes follow those that are not decoded yet.
@@ -105,7 +111,20 @@ impl NodeState {
             (λ e. DoesSilently (entry_turns e (fed_entry bytes.now e) self.old) self.new)) }
         ensures gives { IfOk result (λ fed. IfSome (entry_at cid.0 self.old) (λ e. IsFed (fed_of bytes.now e) fed)) }
     {
-        self.connections.feed(cid, bytes)
+        let memory = mem::replace(&mut self.memory, PackedItems::new(self.alloc));
+        self.connections.feed(cid, bytes, memory)
+    }
+
+    // What bytes gave whose items were handled: the fault behind them. The memory of few items is kept for the next event.
+    fn give_back(&mut self, fed: Decoded) -> Option<CutFault>
+        ensures fault { result ≡ fed.fault }
+        ensures same { self.new ≡ self.old }
+    {
+        let Decoded { items, fault } = fed;
+        if items.len() <= FEW {
+            self.memory = items;
+        }
+        fault
     }
 
     // Items come in, one after another, from a place on. Where the connection has ended, nothing more is handled.
@@ -122,7 +141,7 @@ impl NodeState {
             let Some(facts) = self.found(cid) else {
                 return Ok(());
             };
-            self.handle_in_phase(facts, &items.at(place), actions)?;
+            self.handle_in_phase(&facts, &items.at(place), actions)?;
         }
         Ok(())
     }
@@ -130,13 +149,13 @@ impl NodeState {
     // What comes in is handled by how far the connection has come.
     fn handle_in_phase(
         &mut self,
-        facts: Facts,
+        facts: &Facts,
         item: &LentItem<'_>,
         actions: &mut ActionList,
     ) -> Result<(), OutOfMemory>
-        requires { IsKnown facts self.old }
+        requires { IsKnown facts.now self.old }
         ensures { OnOk result
-            (DoesTo facts.cid.0 (handled (lent item.now)) actions.old self.old self.new actions.new) }
+            (DoesTo facts.now.cid.0 (handled (lent item.now)) actions.old self.old self.new actions.new) }
     {
         match facts.phase {
             Phase::Greeting(_) => {
@@ -162,7 +181,7 @@ impl NodeState {
             return Ok(());
         };
         match self.found(cid) {
-            Some(facts) => self.end(facts, CloseCause::Fault(kind_of(fault)), actions),
+            Some(facts) => self.end(&facts, CloseCause::Fault(kind_of(fault)), actions),
             None => Ok(()),
         }
     }

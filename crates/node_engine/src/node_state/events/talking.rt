@@ -1,13 +1,10 @@
-ghost use Rattle.std.specs.Prelude.{◌≡◌, true, Ok, IfSome, OnOk, IfOk};
+ghost use Rattle.std.specs.Prelude.{◌≡◌, true, false, Ok, OnOk, IfOk};
 ghost use Rattle.conn_state.specs.Protocols.{has_responder};
 ghost use Rattle.conn_state.specs.Shapes.{serves_remote};
-ghost use Rattle.conn_state.specs.Use.{is_negotiated, agreed_sharing, runs};
-ghost use Rattle.machine.specs.Effect.{on_connection};
-ghost use Rattle.machine.specs.Machine.{entry_at};
-ghost use Rattle.machine.specs.Talking.{served_peers, replies, serves, begins, asked_as, talks};
+ghost use Rattle.conn_state.specs.Use.{is_negotiated, runs};
+ghost use Rattle.machine.specs.Talking.{served_peers, replies, serves, asked_as, talks};
 ghost use Rattle.mux_segment.specs.Lent.{lent};
-ghost use Rattle.node_engine.specs.State.{Does, DoesTo, IsKnown};
-ghost use Rattle.remote_watch.specs.Watch.{watched};
+ghost use Rattle.node_engine.specs.State.{DoesTo, IsKnown};
 
 use crate::NodeState;
 use crate::node_state::moves::RESPONDER;
@@ -22,18 +19,18 @@ impl NodeState {
     /// An item comes in on a connection whose handshake is done.
     pub(crate) fn talk(
         &mut self,
-        facts: Facts,
+        facts: &Facts,
         item: &LentItem<'_>,
         actions: &mut ActionList,
     ) -> Result<(), OutOfMemory>
-        requires known { IsKnown facts self.old }
-        requires negotiated { is_negotiated facts ≡ true }
-        ensures { OnOk result (DoesTo facts.cid.0 (talks (lent item.now)) actions.old self.old self.new actions.new) }
+        requires known { IsKnown facts.now self.old }
+        requires negotiated { is_negotiated facts.now ≡ true }
+        ensures { OnOk result (DoesTo facts.now.cid.0 (talks (lent item.now)) actions.old self.old self.new actions.new) }
     {
         if item.side != 0 {
             return self.take_answer(facts, item, actions);
         }
-        match watch(self.alloc, item.id, is_sharing(&facts), item.body) {
+        match watch(self.alloc, item.id, is_sharing(facts), item.body) {
             Ok(seen) => self.take_request(facts, item.id, seen, actions),
             Err(refusal) => self.end(facts, CloseCause::Fault(refusal.fault()?), actions),
         }
@@ -42,59 +39,62 @@ impl NodeState {
     // What the other side asks is understood.
     fn take_request(
         &mut self,
-        facts: Facts,
+        facts: &Facts,
         protocol: u16,
         seen: Seen,
         actions: &mut ActionList,
     ) -> Result<(), OutOfMemory>
-        requires known { IsKnown facts self.old }
-        requires negotiated { is_negotiated facts ≡ true }
+        requires known { IsKnown facts.now self.old }
+        requires negotiated { is_negotiated facts.now ≡ true }
         requires responder { has_responder protocol ≡ true }
-        ensures { OnOk result (DoesTo facts.cid.0 (asked_as (Ok seen) protocol) actions.old self.old self.new actions.new) }
+        ensures { OnOk result (DoesTo facts.now.cid.0 (asked_as (Ok seen) protocol) actions.old self.old self.new actions.new) }
     {
         // nothing is taken from the other side where this node alone may begin protocols
-        if !serves_remote(&facts) {
+        if !serves_remote(facts) {
             return self.end(facts, CloseCause::Fault(FaultKind::Protocol), actions);
         }
-        self.begin(facts, protocol, actions)?;
-        self.serve(facts.cid, protocol, seen, actions)
+        if runs(protocol, facts.running) {
+            self.serve(facts, protocol, seen, actions)
+        } else {
+            self.begin(facts, protocol, seen, actions)
+        }
     }
 
     // A protocol that does not run starts with its first item. That may end the connection.
     fn begin(
         &mut self,
-        facts: Facts,
-        protocol: u16,
-        actions: &mut ActionList,
-    ) -> Result<(), OutOfMemory>
-        requires known { IsKnown facts self.old }
-        requires negotiated { is_negotiated facts ≡ true }
-        requires serves { serves_remote facts ≡ true }
-        requires responder { has_responder protocol ≡ true }
-        ensures does { OnOk result (DoesTo facts.cid.0 (begins protocol) actions.old self.old self.new actions.new) }
-        ensures runs { OnOk result (IfSome (entry_at facts.cid.0 self.new) (λ e. runs protocol e.facts.running ≡ true)) }
-    {
-        if runs(protocol, facts.running) {
-            return Ok(());
-        }
-        self.awake(facts, protocol, actions)
-    }
-
-    // Where the connection still stands, the reply is sent, and the protocol that is done stops.
-    fn serve(
-        &mut self,
-        cid: Cid,
+        facts: &Facts,
         protocol: u16,
         seen: Seen,
         actions: &mut ActionList,
     ) -> Result<(), OutOfMemory>
+        requires known { IsKnown facts.now self.old }
+        requires negotiated { is_negotiated facts.now ≡ true }
+        requires serves { serves_remote facts.now ≡ true }
         requires responder { has_responder protocol ≡ true }
-        requires runs { IfSome (entry_at cid.0 self.old) (λ e. runs protocol e.facts.running ≡ true) }
-        ensures { OnOk result (Does (on_connection cid (serves seen protocol) self.old) actions.old self.new actions.new) }
+        requires stands_still { runs protocol facts.now.running ≡ false }
+        ensures { OnOk result (DoesTo facts.now.cid.0 (asked_as (Ok seen) protocol) actions.old self.old self.new actions.new) }
     {
-        let Some(facts) = self.found(cid) else {
-            return Ok(());
-        };
+        self.awake(facts, protocol, actions)?;
+        match self.found(facts.cid) {
+            Some(facts) => self.serve(&facts, protocol, seen, actions),
+            None => Ok(()),
+        }
+    }
+
+    // The reply is sent, and the protocol that is done stops.
+    fn serve(
+        &mut self,
+        facts: &Facts,
+        protocol: u16,
+        seen: Seen,
+        actions: &mut ActionList,
+    ) -> Result<(), OutOfMemory>
+        requires known { IsKnown facts.now self.old }
+        requires responder { has_responder protocol ≡ true }
+        requires runs { runs protocol facts.now.running ≡ true }
+        ensures { OnOk result (DoesTo facts.now.cid.0 (serves seen protocol) actions.old self.old self.new actions.new) }
+    {
         self.reply(facts, protocol, seen.reply, actions)?;
         if seen.done {
             let until = self.idle_end();
@@ -107,14 +107,14 @@ impl NodeState {
     // A reply is sent, where there is one.
     fn reply(
         &mut self,
-        facts: Facts,
+        facts: &Facts,
         protocol: u16,
         reply: Reply,
         actions: &mut ActionList,
     ) -> Result<(), OutOfMemory>
-        requires known { IsKnown facts self.old }
+        requires known { IsKnown facts.now self.old }
         requires responder { has_responder protocol ≡ true }
-        ensures does { OnOk result (DoesTo facts.cid.0 (replies reply protocol) actions.old self.old self.new actions.new) }
+        ensures does { OnOk result (DoesTo facts.now.cid.0 (replies reply protocol) actions.old self.old self.new actions.new) }
         ensures same { OnOk result (self.new ≡ self.old) }
     {
         if matches!(reply, Reply::Nothing) {

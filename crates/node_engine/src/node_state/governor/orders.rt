@@ -9,7 +9,7 @@ use crate::node_state::moves::INITIATOR;
 use conn_table::Step;
 use govern_rules::Order;
 use net_base::protocol::PEER_SHARING;
-use net_base::{Action, ActionList, Addr, Facts, OutOfMemory, PeerNote, Temp};
+use net_base::{Action, ActionList, Facts, OutOfMemory, PeerNote, Temp};
 use warm_messages::write_request;
 
 /// [4, []]: where do our chains meet
@@ -41,7 +41,7 @@ impl NodeState {
     {
         match order {
             Order::Ask(addr, number) => match self.used(addr) {
-                Some(facts) => self.ask_peer(facts, number, actions),
+                Some(facts) => self.ask_peer(&facts, number, actions),
                 None => Ok(()),
             },
             Order::Forget(addr) => {
@@ -50,19 +50,19 @@ impl NodeState {
             }
             // a connection that can be taken into use is; else the address is dialed
             Order::Promote(addr) => match self.live(addr) {
-                Some(facts) => self.come_into_use(facts, Step::Acquire, actions),
+                Some(facts) => self.come_into_use(&facts, Step::Acquire, actions),
                 None => self.dial(addr, actions),
             },
             Order::Release(addr) => match self.used(addr) {
-                Some(facts) => self.release(facts, actions),
+                Some(facts) => self.release(&facts, actions),
                 None => Ok(()),
             },
             Order::Activate(addr) => match self.used(addr) {
-                Some(facts) => self.activate(facts, actions),
+                Some(facts) => self.activate(&facts, actions),
                 None => Ok(()),
             },
             Order::Deactivate(addr) => match self.used(addr) {
-                Some(facts) => self.deactivate(facts, actions),
+                Some(facts) => self.deactivate(&facts, actions),
                 None => Ok(()),
             },
         }
@@ -71,12 +71,12 @@ impl NodeState {
     // A peer is asked for addresses, and not again for a while.
     fn ask_peer(
         &mut self,
-        facts: Facts,
+        facts: &Facts,
         number: u64,
         actions: &mut ActionList,
     ) -> Result<(), OutOfMemory>
-        requires { IsKnown facts self.old }
-        ensures { OnOk result (DoesTo facts.cid.0 (asks_peer number) actions.old self.old self.new actions.new) }
+        requires { IsKnown facts.now self.old }
+        ensures { OnOk result (DoesTo facts.now.cid.0 (asks_peer number) actions.old self.old self.new actions.new) }
     {
         let request = write_request(self.alloc, number)?;
         self.send(
@@ -93,9 +93,9 @@ impl NodeState {
     }
 
     // A warm peer is asked where the chains meet; it is hot once it has answered.
-    fn activate(&mut self, facts: Facts, actions: &mut ActionList) -> Result<(), OutOfMemory>
-        requires { IsKnown facts self.old }
-        ensures { OnOk result (DoesTo facts.cid.0 activates actions.old self.old self.new actions.new) }
+    fn activate(&mut self, facts: &Facts, actions: &mut ActionList) -> Result<(), OutOfMemory>
+        requires { IsKnown facts.now self.old }
+        ensures { OnOk result (DoesTo facts.now.cid.0 activates actions.old self.old self.new actions.new) }
     {
         self.send(facts.cid, INITIATOR, 2, &FIND_INTERSECT, actions)?;
         self.owe(facts.cid, 2, 0);
@@ -103,9 +103,9 @@ impl NodeState {
     }
 
     // A hot peer is told that chain-sync is done, and is warm.
-    fn deactivate(&mut self, facts: Facts, actions: &mut ActionList) -> Result<(), OutOfMemory>
-        requires { IsKnown facts self.old }
-        ensures { OnOk result (DoesTo facts.cid.0 deactivates actions.old self.old self.new actions.new) }
+    fn deactivate(&mut self, facts: &Facts, actions: &mut ActionList) -> Result<(), OutOfMemory>
+        requires { IsKnown facts.now self.old }
+        ensures { OnOk result (DoesTo facts.now.cid.0 deactivates actions.old self.old self.new actions.new) }
     {
         self.send(facts.cid, INITIATOR, 2, &CHAIN_SYNC_DONE, actions)?;
         self.peer_becomes(Temp::Warm, facts.addr, actions)

@@ -30,12 +30,12 @@ impl NodeState {
     /// The socket is open: the handshake begins with this node's proposal.
     pub(crate) fn dial_opens(
         &mut self,
-        facts: Facts,
+        facts: &Facts,
         actions: &mut ActionList,
     ) -> Result<(), OutOfMemory>
-        requires known { IsKnown facts self.old }
-        requires dialing { is_dialing facts ≡ true }
-        ensures { OnOk result (DoesTo facts.cid.0 dial_opens actions.old self.old self.new actions.new) }
+        requires known { IsKnown facts.now self.old }
+        requires dialing { is_dialing facts.now ≡ true }
+        ensures { OnOk result (DoesTo facts.now.cid.0 dial_opens actions.old self.old self.new actions.new) }
     {
         let until = self.moment + self.connections.settings().handshake;
         self.turn(facts, Step::Connected(until), actions)?;

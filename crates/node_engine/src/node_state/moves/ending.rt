@@ -10,12 +10,12 @@ impl NodeState {
     /// This node ends a connection for a cause.
     pub(crate) fn end(
         &mut self,
-        facts: Facts,
+        facts: &Facts,
         cause: CloseCause,
         actions: &mut ActionList,
     ) -> Result<(), OutOfMemory>
-        requires { IsKnown facts self.old }
-        ensures { OnOk result (DoesTo facts.cid.0 (ending cause) actions.old self.old self.new actions.new) }
+        requires { IsKnown facts.now self.old }
+        ensures { OnOk result (DoesTo facts.now.cid.0 (ending cause) actions.old self.old self.new actions.new) }
     {
         actions.push(Action::Close(facts.cid, cause))?;
         self.let_go(facts, actions)?;
@@ -28,11 +28,11 @@ impl NodeState {
     /// A connection goes without this node's doing.
     pub(crate) fn vanish(
         &mut self,
-        facts: Facts,
+        facts: &Facts,
         actions: &mut ActionList,
     ) -> Result<(), OutOfMemory>
-        requires { IsKnown facts self.old }
-        ensures { OnOk result (DoesTo facts.cid.0 vanishes actions.old self.old self.new actions.new) }
+        requires { IsKnown facts.now self.old }
+        ensures { OnOk result (DoesTo facts.now.cid.0 vanishes actions.old self.old self.new actions.new) }
     {
         self.let_go(facts, actions)?;
         self.lose(facts, actions)
@@ -41,21 +41,21 @@ impl NodeState {
     /// A connection goes.
     pub(crate) fn let_go(
         &mut self,
-        facts: Facts,
+        facts: &Facts,
         actions: &mut ActionList,
     ) -> Result<(), OutOfMemory>
-        requires { IsKnown facts self.old }
-        ensures { OnOk result (DoesTo facts.cid.0 entry_goes actions.old self.old self.new actions.new) }
+        requires { IsKnown facts.now self.old }
+        ensures { OnOk result (DoesTo facts.now.cid.0 entry_goes actions.old self.old self.new actions.new) }
     {
         self.connections.remove(facts.cid);
         actions.push(Action::State(facts.cid, StateName::Terminated))
     }
 
     // The peer of a connection that went has failed where this node used it or was on its way to it.
-    fn lose(&mut self, facts: Facts, actions: &mut ActionList) -> Result<(), OutOfMemory>
-        ensures { OnOk result (Does (lost facts self.old) actions.old self.new actions.new) }
+    fn lose(&mut self, facts: &Facts, actions: &mut ActionList) -> Result<(), OutOfMemory>
+        ensures { OnOk result (Does (lost facts.now self.old) actions.old self.new actions.new) }
     {
-        if facts.local || is_pending(&facts) {
+        if facts.local || is_pending(facts) {
             self.peer_fails(facts.addr, actions)
         } else {
             Ok(())

@@ -18,6 +18,16 @@ impl NodeState {
         self.connections.facts(cid).copied()
     }
 
+    /// The same, so that the next look for the connection is short.
+    pub(crate) fn look_up(&mut self, cid: Cid) -> Option<Facts>
+        ensures same { self.new ≡ self.old }
+        ensures entry { result ≡ option_map (λ e. e.facts) (entry_at cid.0 self.old) }
+        ensures id { IfSome result (λ f. f.cid ≡ cid) }
+        ensures known { IfSome result (λ f. IsKnown f self.new) }
+    {
+        self.connections.look_up(cid)
+    }
+
     /// The live connection of an address.
     pub(crate) fn live(&self, addr: Addr) -> Option<Facts>
         ensures entry { result ≡ option_map (λ e. e.facts) (live_entry_at addr self.now) }

@@ -11,12 +11,12 @@ impl NodeState {
     /// The grace of a connection is over. In local use it goes on; otherwise it is unused, and closed.
     pub(crate) fn grace_over(
         &mut self,
-        facts: Facts,
+        facts: &Facts,
         actions: &mut ActionList,
     ) -> Result<(), OutOfMemory>
-        requires known { IsKnown facts self.old }
-        requires over { is_due self.old.now facts.grace ≡ true }
-        ensures { OnOk result (DoesTo facts.cid.0 grace_over actions.old self.old self.new actions.new) }
+        requires known { IsKnown facts.now self.old }
+        requires over { is_due self.old.now facts.now.grace ≡ true }
+        ensures { OnOk result (DoesTo facts.now.cid.0 grace_over actions.old self.old self.new actions.new) }
     {
         let until = self.moment + self.connections.settings().timewait;
         let step = Step::GraceOver(until);

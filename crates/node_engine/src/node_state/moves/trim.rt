@@ -16,7 +16,7 @@ impl NodeState {
         }
         let cid = self.connections.prune_choice().unwrap_or(moved);
         match self.found(cid) {
-            Some(facts) => self.end(facts, CloseCause::Pruned, actions),
+            Some(facts) => self.end(&facts, CloseCause::Pruned, actions),
             None => Ok(()),
         }
     }

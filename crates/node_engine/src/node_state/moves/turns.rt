@@ -4,27 +4,27 @@ ghost use Rattle.connections.specs.Steps.{stepped};
 ghost use Rattle.machine.specs.Connections.{entry_turns};
 ghost use Rattle.machine.specs.Machine.{entry_at};
 ghost use Rattle.machine.specs.Replies.{owing, paid, is_owed_on};
-ghost use Rattle.node_engine.specs.State.{DoesSilently, DoesTo, IsKnown, name_notice};
+ghost use Rattle.node_engine.specs.State.{DoesSilently, DoesTo, IsKnown, name_notice, told_name};
 
 use crate::NodeState;
 use conn_state::names::name_of;
 use conn_table::Step;
-use net_base::{Action, ActionList, Cid, Facts, OutOfMemory};
+use net_base::{Action, ActionList, Cid, Facts, OutOfMemory, StateName};
 
 impl NodeState {
     /// A connection makes a move that it has, and its name is told where it is another one then.
     pub(crate) fn turn(
         &mut self,
-        facts: Facts,
+        facts: &Facts,
         step: Step,
         actions: &mut ActionList,
     ) -> Result<(), OutOfMemory>
-        requires known { IsKnown facts self.old }
-        requires can { CanStep step facts }
-        ensures { OnOk result (DoesTo facts.cid.0 (λ e. entry_turns e (stepped step e)) actions.old self.old self.new actions.new) }
+        requires known { IsKnown facts.now self.old }
+        requires can { CanStep step facts.now }
+        ensures { OnOk result (DoesTo facts.now.cid.0 (λ e. entry_turns e (stepped step e)) actions.old self.old self.new actions.new) }
     {
-        self.connections.turn(facts.cid, step);
-        self.tell_turn(facts, actions)
+        let name = self.connections.turn(facts.cid, step);
+        tell_name(facts, name, actions)
     }
 
     /// Until when a connection that nobody uses from now on is kept.
@@ -54,23 +54,22 @@ impl NodeState {
     }
 
     /// A connection has turned: its name is told, where it is another one than before.
-    pub(crate) fn tell_turn(&self, old: Facts, actions: &mut ActionList) -> Result<(), OutOfMemory>
-        requires { IsSome (entry_at old.cid.0 self.now) }
-        ensures { OnOk result (IfSome (entry_at old.cid.0 self.now)
-            (λ e. actions.new ≡ actions.old ++ name_notice old e.facts)) }
+    pub(crate) fn tell_turn(&self, old: &Facts, actions: &mut ActionList) -> Result<(), OutOfMemory>
+        requires { IsSome (entry_at old.now.cid.0 self.now) }
+        ensures { OnOk result (IfSome (entry_at old.now.cid.0 self.now)
+            (λ e. actions.new ≡ actions.old ++ name_notice old.now e.facts)) }
     {
         match self.connections.facts(old.cid) {
-            Some(new) => tell_name(&old, new, actions),
+            Some(new) => tell_name(old, name_of(new), actions),
             None => unreachable!(),
         }
     }
 }
 
 // The name of a connection is told where it is another one than before.
-fn tell_name(old: &Facts, new: &Facts, actions: &mut ActionList) -> Result<(), OutOfMemory>
-    ensures { OnOk result (actions.new ≡ actions.old ++ name_notice old.now new.now) }
+fn tell_name(old: &Facts, name: StateName, actions: &mut ActionList) -> Result<(), OutOfMemory>
+    ensures { OnOk result (actions.new ≡ actions.old ++ told_name old.now name) }
 {
-    let name = name_of(new);
     if name_of(old) == name {
         return Ok(());
     }

@@ -20,14 +20,14 @@ impl NodeState {
     /// A connection comes into this node's use by a move that it has.
     pub(crate) fn come_into_use(
         &mut self,
-        facts: Facts,
+        facts: &Facts,
         step: Step,
         actions: &mut ActionList,
     ) -> Result<(), OutOfMemory>
-        requires known { IsKnown facts self.old }
-        requires can { CanStep step facts }
-        requires stays { closes step facts ≡ false }
-        ensures { OnOk result (DoesTo facts.cid.0 (λ e. is_used (after_step step e.facts) e) actions.old self.old self.new actions.new) }
+        requires known { IsKnown facts.now self.old }
+        requires can { CanStep step facts.now }
+        requires stays { closes step facts.now ≡ false }
+        ensures { OnOk result (DoesTo facts.now.cid.0 (λ e. is_used (after_step step e.facts) e) actions.old self.old self.new actions.new) }
     {
         self.connections.turn(facts.cid, step);
         self.greet_use(facts, actions)
@@ -36,12 +36,12 @@ impl NodeState {
     /// This node gives a connection out of its use.
     pub(crate) fn release(
         &mut self,
-        facts: Facts,
+        facts: &Facts,
         actions: &mut ActionList,
     ) -> Result<(), OutOfMemory>
-        requires known { IsKnown facts self.old }
-        requires used { facts.local ≡ true }
-        ensures { OnOk result (DoesTo facts.cid.0 release actions.old self.old self.new actions.new) }
+        requires known { IsKnown facts.now self.old }
+        requires used { facts.now.local ≡ true }
+        ensures { OnOk result (DoesTo facts.now.cid.0 release actions.old self.old self.new actions.new) }
     {
         self.say_done(facts, actions)?;
         let until = self.idle_end();
@@ -53,14 +53,14 @@ impl NodeState {
     /// The other side begins a protocol.
     pub(crate) fn awake(
         &mut self,
-        facts: Facts,
+        facts: &Facts,
         protocol: u16,
         actions: &mut ActionList,
     ) -> Result<(), OutOfMemory>
-        requires known { IsKnown facts self.old }
+        requires known { IsKnown facts.now self.old }
         requires responder { has_responder protocol ≡ true }
-        requires may { CanAwake protocol facts }
-        ensures { OnOk result (DoesTo facts.cid.0 (awake protocol) actions.old self.old self.new actions.new) }
+        requires may { CanAwake protocol facts.now }
+        ensures { OnOk result (DoesTo facts.now.cid.0 (awake protocol) actions.old self.old self.new actions.new) }
     {
         self.turn(facts, Step::Awake(protocol), actions)?;
         self.trim(facts.cid, actions)
@@ -68,9 +68,9 @@ impl NodeState {
 
     // A connection has come into this node's use: its name is told, its peer is warm, and a keep-alive is sent, to
     // which a reply is owed.
-    fn greet_use(&mut self, before: Facts, actions: &mut ActionList) -> Result<(), OutOfMemory>
-        requires { IsSome (entry_at before.cid.0 self.old) }
-        ensures { OnOk result (DoesTo before.cid.0 (is_used_from before) actions.old self.old self.new actions.new) }
+    fn greet_use(&mut self, before: &Facts, actions: &mut ActionList) -> Result<(), OutOfMemory>
+        requires { IsSome (entry_at before.now.cid.0 self.old) }
+        ensures { OnOk result (DoesTo before.now.cid.0 (is_used_from before.now) actions.old self.old self.new actions.new) }
     {
         let cookie = (before.cid.0 % 65_536) as u16;
         self.tell_turn(before, actions)?;
@@ -93,10 +93,10 @@ impl NodeState {
     }
 
     // The protocols that this node began are done: peer sharing, where it was agreed, and keep-alive.
-    fn say_done(&self, facts: Facts, actions: &mut ActionList) -> Result<(), OutOfMemory>
-        ensures { OnOk result (Does (says_done facts self.now) actions.old self.now actions.new) }
+    fn say_done(&self, facts: &Facts, actions: &mut ActionList) -> Result<(), OutOfMemory>
+        ensures { OnOk result (Does (says_done facts.now self.now) actions.old self.now actions.new) }
     {
-        if is_sharing(&facts) {
+        if is_sharing(facts) {
             self.send(facts.cid, INITIATOR, PEER_SHARING, &SHARE_DONE, actions)?;
         }
         self.keep_alive(facts.cid, Alive::Done, actions)

@@ -48,7 +48,7 @@ invariant_of-self c =
     (λ h. (
       record {
         settings_sound = c.self.invariant.0.settings_sound;
-        roster_kept = looked_at c.self.inside.kept.roster c.place_of-place.result c.self.invariant.0.roster_kept;
+        roster_kept = looked_at c.self.inside.kept.roster c.args.cid c.place_of-place.result c.place_of-place.ensures c.self.invariant.0.roster_kept;
         talks_are = (fed d h).stands.talks_are;
         ordered = c.self.invariant.0.ordered;
       },
@@ -60,7 +60,7 @@ invariant_of-self c =
     (λ h. (
       record {
         settings_sound = c.self.invariant.0.settings_sound;
-        roster_kept = looked_at c.self.inside.kept.roster c.place_of-place.result c.self.invariant.0.roster_kept;
+        roster_kept = looked_at c.self.inside.kept.roster c.args.cid c.place_of-place.result c.place_of-place.ensures c.self.invariant.0.roster_kept;
         talks_are = (emptied d h).stands.talks_are;
         ordered = c.self.invariant.0.ordered;
       },

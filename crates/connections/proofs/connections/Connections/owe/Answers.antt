@@ -38,12 +38,12 @@ pub follow-requires-clause-linked : goal.follow-requires-clause-linked
 follow-requires-clause-linked c = linked_but c.args.cid (owes c.args.protocol c.args.asked (c.args.now + c.self.inside.kept.settings.reply)) _ _ _ _ c.self.invariant.1.0 c.self.invariant.1.1
     (stands_in c.args.cid _ _ c.self.view_is c.requires.stands) (λ e. refl) (turns (goal.at.follow-requires-clause-linked c).After-owe_at).turns
 
-pub link-seen-requires-clause-stands : goal.link-seen-requires-clause-stands
-link-seen-requires-clause-stands c = stands_in c.args.cid _ _ c.self.view_is c.requires.stands
+pub sight-seen-requires-clause-stands : goal.sight-seen-requires-clause-stands
+sight-seen-requires-clause-stands c = stands_in c.args.cid _ _ c.self.view_is c.requires.stands
 
 pub follow-requires-clause-stays : goal.follow-requires-clause-stays
-follow-requires-clause-stays c = linked_if c.args.cid (owes c.args.protocol c.args.asked (c.args.now + c.self.inside.kept.settings.reply)) c.link-seen.result _ _ _ _ c.self.invariant.1.0 c.self.invariant.1.1
-    (stands_in c.args.cid _ _ c.self.view_is c.requires.stands) (λ e. refl) c.link-seen.ensures (turns (goal.at.follow-requires-clause-stays c).After-owe_at).turns
+follow-requires-clause-stays c = linked_if c.args.cid (owes c.args.protocol c.args.asked (c.args.now + c.self.inside.kept.settings.reply)) c.sight-seen.result _ _ _ _ c.self.invariant.1.0 c.self.invariant.1.1
+    (stands_in c.args.cid _ _ c.self.view_is c.requires.stands) (λ e. refl) c.sight-seen.ensures (turns (goal.at.follow-requires-clause-stays c).After-owe_at).turns
 
 pub returns : goal.returns
 returns c =

@@ -37,12 +37,12 @@ pub follow-requires-clause-linked : goal.follow-requires-clause-linked
 follow-requires-clause-linked c = linked_but c.args.cid (paid c.args.protocol) _ _ _ _ c.self.invariant.1.0 c.self.invariant.1.1
     (stands_in c.args.cid _ _ c.self.view_is c.requires) (λ e. refl) (turns (goal.at.follow-requires-clause-linked c).After-pay_at).turns
 
-pub link-seen-requires-clause-stands : goal.link-seen-requires-clause-stands
-link-seen-requires-clause-stands c = stands_in c.args.cid _ _ c.self.view_is c.requires
+pub sight-seen-requires-clause-stands : goal.sight-seen-requires-clause-stands
+sight-seen-requires-clause-stands c = stands_in c.args.cid _ _ c.self.view_is c.requires
 
 pub follow-requires-clause-stays : goal.follow-requires-clause-stays
-follow-requires-clause-stays c = linked_if c.args.cid (paid c.args.protocol) c.link-seen.result _ _ _ _ c.self.invariant.1.0 c.self.invariant.1.1
-    (stands_in c.args.cid _ _ c.self.view_is c.requires) (λ e. refl) c.link-seen.ensures (turns (goal.at.follow-requires-clause-stays c).After-pay_at).turns
+follow-requires-clause-stays c = linked_if c.args.cid (paid c.args.protocol) c.sight-seen.result _ _ _ _ c.self.invariant.1.0 c.self.invariant.1.1
+    (stands_in c.args.cid _ _ c.self.view_is c.requires) (λ e. refl) c.sight-seen.ensures (turns (goal.at.follow-requires-clause-stays c).After-pay_at).turns
 
 pub returns : goal.returns
 returns c = said c.args.cid.0 (paid c.args.protocol) _ _ _ c.self.view_is (turns (goal.at.returns c).After-pay_at).turns

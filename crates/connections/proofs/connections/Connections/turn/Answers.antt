@@ -7,6 +7,7 @@ use Rattle.connections.specs.Ordered.{IsOrdered}
 use Rattle.connections.specs.Steps.{stepped}
 use Rattle.connections.proofs.LinkedTurns.{moved_linked, moved_if}
 use Rattle.connections.proofs.OrderTurns.{still_inside, stands_in_order, ordered_turn}
+use Rattle.connections.proofs.Reading.{named}
 use Rattle.connections.proofs.Stepping.{asked, said, FoundIn, found_in, placed_in, talk_inside, was_there, step_turns, still_placed, keeps_id}
 use Rattle.connections.proofs.TalkTurns.{IsTurn}
 use Rattle.connections.proofs.TimedTurns.{moved_but, stands_in, some_of}
@@ -82,15 +83,37 @@ pub follow-requires-clause-linked : goal.follow-requires-clause-linked
 follow-requires-clause-linked c = moved_linked c.args.cid _ (stepped c.args.step) _ _ _ _ _ c.self.invariant.1.0 c.self.invariant.1.1 c.self.view_is
     c.requires (λ e. step_keeps c.args.step e.facts) (turns (goal.at.follow-requires-clause-linked c).After-unread_at).turns
 
-pub link-seen-requires-clause-stands : goal.link-seen-requires-clause-stands
-link-seen-requires-clause-stands c = stands_in c.args.cid _ _ c.self.view_is (some_of _ _ c.requires)
+pub sight-seen-requires-clause-stands : goal.sight-seen-requires-clause-stands
+sight-seen-requires-clause-stands c = stands_in c.args.cid _ _ c.self.view_is (some_of _ _ c.requires)
 
 pub follow-requires-clause-stays : goal.follow-requires-clause-stays
-follow-requires-clause-stays c = moved_if c.args.cid _ (stepped c.args.step) c.link-seen.result _ _ _ _ _ c.self.invariant.1.0 c.self.invariant.1.1 c.self.view_is
-    c.requires (λ e. keeps_id c.args.step e.facts) c.link-seen.ensures (turns (goal.at.follow-requires-clause-stays c).After-unread_at).turns
+follow-requires-clause-stays c = moved_if c.args.cid _ (stepped c.args.step) c.sight-seen.result _ _ _ _ _ c.self.invariant.1.0 c.self.invariant.1.1 c.self.view_is
+    c.requires (λ e. step_keeps c.args.step e.facts) c.sight-seen.ensures (turns (goal.at.follow-requires-clause-stays c).After-unread_at).turns
 
-pub returns : goal.returns
-returns c = said c.args.cid.0 (stepped c.args.step) _ _ _ c.self.view_is (turns (goal.at.returns c).After-unread_at).turns
+pub returns-clause-turns : goal.returns-clause-turns
+returns-clause-turns c = said c.args.cid.0 (stepped c.args.step) _ _ _ c.self.view_is (turns (goal.at.returns-clause-turns c).After-unread_at).turns
+
+pub returns-clause-name : goal.returns-clause-name
+returns-clause-name c =
+    named c.args.cid c.place_of-place.result
+    record {
+      settings = c.self.inside.kept.settings;
+      roster = c.turn_at-was.new.self;
+      talks = c.unread_at.new.talks;
+      order = c.rerank.new.order;
+    }
+    c.at-2.result.now c.name_of.result
+    record {
+      settings_sound = c.self.invariant.0.settings_sound;
+      roster_kept = c.turn_at-was.ensures.kept;
+      talks_are = (turns (goal.at.returns-clause-name c).After-unread_at).stands.talks_are;
+      ordered = ordered (goal.at.returns-clause-name c).After-rerank;
+    }
+    (moved_but c.args.cid _ (stepped c.args.step) _ _ _ _ c.self.invariant.1.0 c.self.view_is
+    c.requires (λ e. keeps_id c.args.step e.facts) (turns (goal.at.returns-clause-name c).After-unread_at).turns).stands
+    (still_placed c.args.step c.args.cid.0 c.place_of-place.result c.turn_at-was.result.cid.0 c.self.inside.kept c.turn_at-was.new.self
+    c.place_of-place.ensures c.turn_at-was.ensures.facts)
+    c.at-2.ensures c.name_of.ensures
 
 pub invariant_of-self : goal.invariant_of-self
 invariant_of-self c = (

@@ -12,20 +12,20 @@ use Rattle.node_engine.proofs.node_state.NodeState.come_into_use.Goals as goal
 
 pub turn-requires : goal.turn-requires
 turn-requires c =
-    let it = known c.args.facts c.args.self.now c.requires.known in
-    let there = ap (λ m. find (λ x. has_id c.args.facts.cid.0 x.facts) m.connections) c.self.view_is ∙ it.1 in
+    let it = known c.args.facts.now c.args.self.now c.requires.known in
+    let there = ap (λ m. find (λ x. has_id c.args.facts.now.cid.0 x.facts) m.connections) c.self.view_is ∙ it.1 in
     subst (λ o. IsSomeAnd o (λ e. CanStep c.args.step e.facts)) (sym there) (subst (CanStep c.args.step) (sym it.2) c.requires.can)
 
-turned : (c : After-turn) → HasTurned c.args.facts (moved (after_step c.args.step)) c.self.inside.connections c.turn.new.self
+turned : (c : After-turn) → HasTurned c.args.facts.now (moved (after_step c.args.step)) c.self.inside.connections c.turn.new.self
 turned c = turned_as _ (stepped c.args.step) _ _ _
     (has_turned _ _ c.args.self.now _ _ c.requires.known (ap (λ m. m.connections) c.self.view_is)
-    (λ e. ap (λ p. p.cid) (step_keeps c.args.step e.facts)) c.turn.ensures)
-    (λ e is. not_closed c.args.step c.args.facts e c.requires.stays is)
+    (λ e. ap (λ p. p.cid) (step_keeps c.args.step e.facts)) c.turn.ensures.turns)
+    (λ e is. not_closed c.args.step c.args.facts.now e c.requires.stays is)
 
 pub greet_use-requires : goal.greet_use-requires
 greet_use-requires c = on_some _ _ (turned (goal.at.greet_use-requires c).After-turn).next_there
 
 pub returns : goal.returns
 returns c = on_ok_weaker c.greet_use.result (used_does _ _ _ _ _ _ (λ e. is_used (after_step c.args.step e.facts) e) _ _ _ _ (λ e. refl) c.self.view_is
-    (turned (goal.at.returns c).After-turn) (ap (λ p. p.cid) (step_keeps c.args.step c.args.facts)) (ap (λ p. p.addr) (step_keeps c.args.step c.args.facts)))
+    (turned (goal.at.returns c).After-turn) (ap (λ p. p.cid) (step_keeps c.args.step c.args.facts.now)) (ap (λ p. p.addr) (step_keeps c.args.step c.args.facts.now)))
     c.greet_use.ensures

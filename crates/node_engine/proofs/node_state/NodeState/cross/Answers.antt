@@ -6,7 +6,7 @@ use Rattle.node_engine.proofs.node_state.NodeState.cross.Goals.{In_ok-end}
 use Rattle.node_engine.proofs.node_state.NodeState.cross.Goals as goal
 
 goes : (c : In_ok-end) → GivesWay c.args.addr c.args.self.now c.end.new.self c.args.actions.now c.end.new.actions
-goes c = gives_way c.args.addr c.args.facts c.args.self.now c.end.new.self c.args.actions.now c.end.new.actions
+goes c = gives_way c.args.addr c.args.facts.now c.args.self.now c.end.new.self c.args.actions.now c.end.new.actions
     c.requires.orderly c.requires.live c.requires.by_id c.in_ok-end.ensures
 
 pub admit-requires-clause-no_live : goal.admit-requires-clause-no_live

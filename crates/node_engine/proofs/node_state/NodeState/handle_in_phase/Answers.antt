@@ -19,8 +19,8 @@ returns-in_ok-received-in-Greeting c =
     let m = c.args.self.now in
     let item = lent c.args.item.now in
     let r = c.in_ok-received-in-Greeting.received in
-    let greets_in : is_greeting_phase c.args.facts.phase ≡ true = ap is_greeting_phase c.in-Greeting.is in
-    does_other c.greet_as.result c.args.facts (greeted_as r) (handled item) m c.greet_as.new.self c.args.actions.now c.args.actions.now c.greet_as.new.actions
+    let greets_in : is_greeting_phase c.args.facts.now.phase ≡ true = ap is_greeting_phase c.in-Greeting.is in
+    does_other c.greet_as.result c.args.facts.now (greeted_as r) (handled item) m c.greet_as.new.self c.args.actions.now c.args.actions.now c.greet_as.new.actions
     c.requires
     (λ e is same done. subst (λ effect. Does effect c.args.actions.now c.greet_as.new.self c.greet_as.new.actions)
     (greets-as item e m r (subst (λ f. r ≡ receives received.Fault received.Decided (role_of f.provenance) (own_info m.settings) item) (sym same) c.in_ok-received-in-Greeting.ensures.received)
