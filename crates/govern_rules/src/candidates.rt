@@ -137,7 +137,7 @@ fn found<'a>(
     let mut walk = search.view.links.walk();
     let mut nearby = Nearby::new(book);
     for addr in addrs {
-        take_in(&mut cands, search, &mut walk, nearby.at(*addr))?;
+        take_in(&mut cands, search, &mut walk, nearby.at(addr))?;
     }
     Ok(cands)
 }

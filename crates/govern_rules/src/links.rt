@@ -50,23 +50,23 @@ impl<'a> LinkList<'a> {
     }
 
     // How many links have an address below one.
-    pub(crate) fn start_of(&self, addr: Addr) -> usize
-        ensures { result ≡ prefix_len (is_below addr) self.now }
+    pub(crate) fn start_of(&self, addr: &Addr) -> usize
+        ensures { result ≡ prefix_len (is_below addr.now) self.now }
     {
         start_of(self.all, addr)
     }
 
     // Some link of an address has a mark, where so many have an address below it.
-    pub(crate) fn some_at(&self, start: usize, addr: Addr, mark: Mark) -> bool
-        requires { start ≡ prefix_len (is_below addr) self.now }
-        ensures { result ≡ list_any (has_mark mark) (links_of addr self.now) }
+    pub(crate) fn some_at(&self, start: usize, addr: &Addr, mark: Mark) -> bool
+        requires { start ≡ prefix_len (is_below addr.now) self.now }
+        ensures { result ≡ list_any (has_mark mark) (links_of addr.now self.now) }
     {
         some_from(self.all, start, addr, mark)
     }
 
     // Some link of an address has a mark.
-    pub(crate) fn some(&self, addr: Addr, mark: Mark) -> bool
-        ensures { result ≡ some_link (has_mark mark) self.now addr }
+    pub(crate) fn some(&self, addr: &Addr, mark: Mark) -> bool
+        ensures { result ≡ some_link (has_mark mark) self.now addr.now }
     {
         self.some_at(self.start_of(addr), addr, mark)
     }
@@ -84,23 +84,23 @@ impl<'a> LinkList<'a> {
 }
 
 // How many links have an address below one.
-pub fn start_of(links: &ChunkedList<Link>, addr: Addr) -> usize
+pub fn start_of(links: &ChunkedList<Link>, addr: &Addr) -> usize
     requires { IsInOrder links.now }
-    ensures { result ≡ prefix_len (is_below addr) links.now }
+    ensures { result ≡ prefix_len (is_below addr.now) links.now }
 {
-    links.partition_point(|link| link.addr.is_before(&addr))
+    links.partition_point(|link| link.addr.is_before(addr))
 }
 
 // Some of the links from a place on that have an address has a mark. None of them has an address below it.
-pub fn some_from(links: &ChunkedList<Link>, start: usize, addr: Addr, mark: Mark) -> bool
+pub fn some_from(links: &ChunkedList<Link>, start: usize, addr: &Addr, mark: Mark) -> bool
     requires ordered { IsInOrder links.now }
-    requires above { AreNotBelow addr (drop start links.now) }
-    ensures { result ≡ list_any (has_mark mark) (links_of addr (drop start links.now)) }
+    requires above { AreNotBelow addr.now (drop start links.now) }
+    ensures { result ≡ list_any (has_mark mark) (links_of addr.now (drop start links.now)) }
 {
     let mut place = start;
     while place < links.len() {
         let link = links.at(place);
-        if !link.addr.is_same(&addr) {
+        if !link.addr.is_same(addr) {
             return false;
         }
         if has_mark(mark, link) {

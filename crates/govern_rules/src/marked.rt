@@ -82,8 +82,8 @@ fn counts(
     ensures same { nearby.new ≡ nearby.old }
 {
     has_mark(mark, link)
-        && !some_behind(links, place + 1, after, link.addr, mark)
-        && nearby.has(big, link.addr)
+        && !some_behind(links, place + 1, after, &link.addr, mark)
+        && nearby.has(big, &link.addr)
 }
 
 // Some of the links from a place on that have an address has a mark. None of them has an address below it, and those that
@@ -92,13 +92,13 @@ fn some_behind(
     links: &ChunkedList<Link>,
     start: usize,
     run: &[Link],
-    addr: Addr,
+    addr: &Addr,
     mark: Mark,
 ) -> bool
     requires ordered { IsInOrder links.now }
-    requires above { AreNotBelow addr (drop start links.now) }
+    requires above { AreNotBelow addr.now (drop start links.now) }
     requires run { IsRunFrom start links.now run.now }
-    ensures { result ≡ list_any (has_mark mark) (links_of addr (drop start links.now)) }
+    ensures { result ≡ list_any (has_mark mark) (links_of addr.now (drop start links.now)) }
 {
     if starts_elsewhere(run, addr) {
         return false;
@@ -107,11 +107,11 @@ fn some_behind(
 }
 
 // Whether the first of some links has another address.
-fn starts_elsewhere(run: &[Link], addr: Addr) -> bool
-    ensures { result ≡ has_other_address_at addr (slice_get run.now 0) }
+fn starts_elsewhere(run: &[Link], addr: &Addr) -> bool
+    ensures { result ≡ has_other_address_at addr.now (slice_get run.now 0) }
 {
     match run.first() {
-        Some(link) => !link.addr.is_same(&addr),
+        Some(link) => !link.addr.is_same(addr),
         None => false,
     }
 }

@@ -40,8 +40,8 @@ impl<'a> Nearby<'a> {
     }
 
     // The peer with an address, alone. None where there is none.
-    pub fn at(&mut self, addr: Addr) -> &'a [Peer]
-        ensures value { result.now ≡ option_to_list (peer_at addr self.old) }
+    pub fn at(&mut self, addr: &Addr) -> &'a [Peer]
+        ensures value { result.now ≡ option_to_list (peer_at addr.now self.old) }
         ensures same { self.new ≡ self.old }
     {
         let run = come_to(self.book, self.run, addr);
@@ -50,8 +50,8 @@ impl<'a> Nearby<'a> {
     }
 
     // Whether there is a peer of a class with an address.
-    pub fn has(&mut self, big: bool, addr: Addr) -> bool
-        ensures value { result ≡ is_class_at big addr self.old }
+    pub fn has(&mut self, big: bool, addr: &Addr) -> bool
+        ensures value { result ≡ is_class_at big addr.now self.old }
         ensures same { self.new ≡ self.old }
     {
         let run = come_to(self.book, self.run, addr);
@@ -61,21 +61,21 @@ impl<'a> Nearby<'a> {
 }
 
 // Peers that stand together. The first of them has an address, where a peer has it.
-fn come_to<'a>(book: &'a PeerBook, run: &'a [Peer], addr: Addr) -> &'a [Peer]
+fn come_to<'a>(book: &'a PeerBook, run: &'a [Peer], addr: &Addr) -> &'a [Peer]
     requires { AreKnown run.now book.now }
     ensures known { AreKnown result.now book.now }
-    ensures first { found_at (λ p. p.addr) addr (slice_get result.now 0) ≡ peer_at addr book.now }
+    ensures first { found_at (λ p. p.addr) addr.now (slice_get result.now 0) ≡ peer_at addr.now book.now }
 {
     let ahead = passed(run, addr);
     if starts_at(ahead, addr) {
         ahead
     } else {
-        book.run_at(addr)
+        book.run_at(*addr)
     }
 }
 
 // The peers from the first one on that has no address below one. None are looked at where the last of them has one.
-fn passed(run: &[Peer], addr: Addr) -> &[Peer]
+fn passed<'a>(run: &'a [Peer], addr: &Addr) -> &'a [Peer]
     ensures { (book : List Peer) → AreKnown run.now book → AreKnown result.now book }
 {
     if ends_below(run, addr) {
@@ -83,7 +83,7 @@ fn passed(run: &[Peer], addr: Addr) -> &[Peer]
     }
     let mut rest = run;
     while let Some((peer, after)) = rest.split_first() {
-        if !peer.addr.is_before(&addr) {
+        if !peer.addr.is_before(addr) {
             return rest;
         }
         rest = after;
@@ -92,26 +92,26 @@ fn passed(run: &[Peer], addr: Addr) -> &[Peer]
 }
 
 // Whether the last of some peers has an address below one.
-fn ends_below(run: &[Peer], addr: Addr) -> bool {
+fn ends_below(run: &[Peer], addr: &Addr) -> bool {
     match run.last() {
-        Some(peer) => peer.addr.is_before(&addr),
+        Some(peer) => peer.addr.is_before(addr),
         None => false,
     }
 }
 
 // Whether the first of some peers has an address.
-fn starts_at(run: &[Peer], addr: Addr) -> bool
-    ensures { result ≡ is_some (found_at (λ p. p.addr) addr (slice_get run.now 0)) }
+fn starts_at(run: &[Peer], addr: &Addr) -> bool
+    ensures { result ≡ is_some (found_at (λ p. p.addr) addr.now (slice_get run.now 0)) }
 {
     match run.first() {
-        Some(peer) => peer.addr.is_same(&addr),
+        Some(peer) => peer.addr.is_same(addr),
         None => false,
     }
 }
 
 // The first of some peers alone, where it has an address.
-fn first_at(run: &[Peer], addr: Addr) -> &[Peer]
-    ensures { result.now ≡ option_to_list (found_at (λ p. p.addr) addr (slice_get run.now 0)) }
+fn first_at<'a>(run: &'a [Peer], addr: &Addr) -> &'a [Peer]
+    ensures { result.now ≡ option_to_list (found_at (λ p. p.addr) addr.now (slice_get run.now 0)) }
 {
     if !starts_at(run, addr) {
         return &[];
@@ -121,11 +121,11 @@ fn first_at(run: &[Peer], addr: Addr) -> &[Peer]
 }
 
 // Whether the first of some peers has an address and is of a class.
-fn starts_with_class(big: bool, addr: Addr, run: &[Peer]) -> bool
-    ensures { result ≡ is_class big (found_at (λ p. p.addr) addr (slice_get run.now 0)) }
+fn starts_with_class(big: bool, addr: &Addr, run: &[Peer]) -> bool
+    ensures { result ≡ is_class big (found_at (λ p. p.addr) addr.now (slice_get run.now 0)) }
 {
     match run.first() {
-        Some(peer) => peer.addr.is_same(&addr) && is_of(big, peer),
+        Some(peer) => peer.addr.is_same(addr) && is_of(big, peer),
         None => false,
     }
 }

@@ -27,8 +27,8 @@ impl Search<'_> {
     {
         is_of(self.big, peer)
             && is_ready(self.task, self.view.moment, peer)
-            && self.whom.is_meant(peer.addr)
-            && is_free(self.task, &self.view.links, peer.addr)
+            && self.whom.is_meant(&peer.addr)
+            && is_free(self.task, &self.view.links, &peer.addr)
     }
 
     // The same beside a walk past the links, which comes to those of the peer.
@@ -39,8 +39,8 @@ impl Search<'_> {
     {
         is_of(self.big, peer)
             && is_ready(self.task, self.view.moment, peer)
-            && self.whom.is_meant(peer.addr)
-            && is_free_beside(self.task, &self.view.links, walk, peer.addr)
+            && self.whom.is_meant(&peer.addr)
+            && is_free_beside(self.task, &self.view.links, walk, &peer.addr)
     }
 }
 
@@ -58,16 +58,16 @@ fn is_ready(task: Task, moment: u64, peer: &Peer) -> bool
 }
 
 // What is asked of the links of its address.
-fn is_free(task: Task, links: &LinkList, addr: Addr) -> bool
-    ensures { result ≡ is_free task (say (links_of addr links.now)) }
+fn is_free(task: Task, links: &LinkList, addr: &Addr) -> bool
+    ensures { result ≡ is_free task (say (links_of addr.now links.now)) }
 {
     is_free_at(task, links, links.start_of(addr), addr)
 }
 
 // The same beside a walk past the links.
-fn is_free_beside(task: Task, links: &LinkList, walk: &mut Walk, addr: Addr) -> bool
+fn is_free_beside(task: Task, links: &LinkList, walk: &mut Walk, addr: &Addr) -> bool
     requires { walk.old ≡ links.now }
-    ensures value { result ≡ is_free task (say (links_of addr links.now)) }
+    ensures value { result ≡ is_free task (say (links_of addr.now links.now)) }
     ensures same { walk.new ≡ walk.old }
 {
     match walk.come_to(addr) {
@@ -91,9 +91,9 @@ fn is_free_alone(task: Task) -> bool
 }
 
 // The same where so many links have an address below it.
-fn is_free_at(task: Task, links: &LinkList, start: usize, addr: Addr) -> bool
-    requires { start ≡ prefix_len (is_below addr) links.now }
-    ensures { result ≡ is_free task (say (links_of addr links.now)) }
+fn is_free_at(task: Task, links: &LinkList, start: usize, addr: &Addr) -> bool
+    requires { start ≡ prefix_len (is_below addr.now) links.now }
+    ensures { result ≡ is_free task (say (links_of addr.now links.now)) }
 {
     match task {
         Task::Asking(_) => links.some_at(start, addr, Mark::CanShare),
@@ -105,9 +105,9 @@ fn is_free_at(task: Task, links: &LinkList, start: usize, addr: Addr) -> bool
     }
 }
 
-fn may_be_promoted(links: &LinkList, start: usize, addr: Addr) -> bool
-    requires { start ≡ prefix_len (is_below addr) links.now }
-    ensures { result ≡ is_free Task.Promoting (say (links_of addr links.now)) }
+fn may_be_promoted(links: &LinkList, start: usize, addr: &Addr) -> bool
+    requires { start ≡ prefix_len (is_below addr.now) links.now }
+    ensures { result ≡ is_free Task.Promoting (say (links_of addr.now links.now)) }
 {
     !links.some_at(start, addr, Mark::Pending)
         && (!links.some_at(start, addr, Mark::Entry)

@@ -44,11 +44,11 @@ fn has_status(status: Status, links: &LinkList, peer: &Peer) -> bool
 fn is_established_or_pending(links: &LinkList, peer: &Peer) -> bool
     ensures { result ≡ has_status Status.EstablishedOrPending links.now peer.now }
 {
-    peer.temp != Temp::Cold || links.some(peer.addr, Mark::Pending)
+    peer.temp != Temp::Cold || links.some(&peer.addr, Mark::Pending)
 }
 
 fn is_hot_or_owes_on_2(links: &LinkList, peer: &Peer) -> bool
     ensures { result ≡ has_status Status.HotOrOwesOn2 links.now peer.now }
 {
-    peer.temp == Temp::Hot || links.some(peer.addr, Mark::Owes2)
+    peer.temp == Temp::Hot || links.some(&peer.addr, Mark::Owes2)
 }

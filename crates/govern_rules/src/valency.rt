@@ -150,7 +150,7 @@ fn count_among(status: Status, addrs: &[Addr], links: &LinkList, book: &PeerBook
     let mut nearby = Nearby::new(book);
     let mut count = 0;
     for addr in addrs {
-        count += count_with(status, nearby.at(*addr), links);
+        count += count_with(status, nearby.at(addr), links);
     }
     count
 }

@@ -49,17 +49,17 @@ impl<'a> Walk<'a> {
     }
 
     // The place of the first link of an address. None where it has no link.
-    pub fn come_to(&mut self, addr: Addr) -> Option<usize>
+    pub fn come_to(&mut self, addr: &Addr) -> Option<usize>
         ensures same { self.new ≡ self.old }
-        ensures there { IfSome result (λ place. place ≡ prefix_len (is_below addr) self.old) }
-        ensures none { result ≡ None → links_of addr self.old ≡ [] }
+        ensures there { IfSome result (λ place. place ≡ prefix_len (is_below addr.now) self.old) }
+        ensures none { result ≡ None → links_of addr.now self.old ≡ [] }
     {
         if self.has_passed(addr) {
             return None;
         }
         let place = self.place_of(addr);
         let run = self.run_from(place);
-        self.last = Some(addr);
+        self.last = Some(*addr);
         self.place = place;
         self.run = run;
         starts_at(run, addr).then_some(place)
@@ -67,17 +67,17 @@ impl<'a> Walk<'a> {
 
     // Whether an address is below that of the first link at hand, and not below the one that was asked for last: so it has
     // no link, and the walk stays where it is.
-    fn has_passed(&self, addr: Addr) -> bool
-        ensures { result ≡ true → links_of addr self.now ≡ [] }
+    fn has_passed(&self, addr: &Addr) -> bool
+        ensures { result ≡ true → links_of addr.now self.now ≡ [] }
     {
-        is_before_first(addr, self.run) && !is_over(self.last, addr)
+        is_before_first(addr, self.run) && !is_over(&self.last, addr)
     }
 
     // How many links have an address below one.
-    fn place_of(&self, addr: Addr) -> usize
-        ensures { result ≡ prefix_len (is_below addr) self.now }
+    fn place_of(&self, addr: &Addr) -> usize
+        ensures { result ≡ prefix_len (is_below addr.now) self.now }
     {
-        if is_over(self.last, addr) || ends_below(self.run, addr) {
+        if is_over(&self.last, addr) || ends_below(self.run, addr) {
             return start_of(self.links, addr);
         }
         if self.place == self.links.len() {
@@ -102,8 +102,8 @@ impl<'a> Walk<'a> {
 }
 
 // Whether an address is below that of the first of some links, or there is none.
-fn is_before_first(addr: Addr, run: &[Link]) -> bool
-    ensures { result ≡ is_before_at addr (slice_get run.now 0) }
+fn is_before_first(addr: &Addr, run: &[Link]) -> bool
+    ensures { result ≡ is_before_at addr.now (slice_get run.now 0) }
 {
     match run.first() {
         Some(link) => addr.is_before(&link.addr),
@@ -112,32 +112,32 @@ fn is_before_first(addr: Addr, run: &[Link]) -> bool
 }
 
 // Whether an address is below the one that was asked for last.
-fn is_over(last: Option<Addr>, addr: Addr) -> bool
-    ensures { result ≡ is_over last addr }
+fn is_over(last: &Option<Addr>, addr: &Addr) -> bool
+    ensures { result ≡ is_over last.now addr.now }
 {
     match last {
-        Some(last) => addr.is_before(&last),
+        Some(last) => addr.is_before(last),
         None => false,
     }
 }
 
 // Whether the last of some links has an address below one.
-fn ends_below(run: &[Link], addr: Addr) -> bool
-    ensures { result ≡ is_below_at addr (slice_get run.now (length run.now - 1)) }
+fn ends_below(run: &[Link], addr: &Addr) -> bool
+    ensures { result ≡ is_below_at addr.now (slice_get run.now (length run.now - 1)) }
 {
     match run.last() {
-        Some(link) => link.addr.is_before(&addr),
+        Some(link) => link.addr.is_before(addr),
         None => false,
     }
 }
 
 // How many links before the first other one have an address below one.
-fn below_in(run: &[Link], addr: Addr) -> usize
-    ensures { result ≡ prefix_len (is_below addr) run.now }
+fn below_in(run: &[Link], addr: &Addr) -> usize
+    ensures { result ≡ prefix_len (is_below addr.now) run.now }
 {
     let mut passed = 0;
     for link in run {
-        if !link.addr.is_before(&addr) {
+        if !link.addr.is_before(addr) {
             return passed;
         }
         passed += 1;
@@ -146,11 +146,11 @@ fn below_in(run: &[Link], addr: Addr) -> usize
 }
 
 // Whether the first of some links has an address.
-fn starts_at(run: &[Link], addr: Addr) -> bool
-    ensures { result ≡ has_address_at addr (slice_get run.now 0) }
+fn starts_at(run: &[Link], addr: &Addr) -> bool
+    ensures { result ≡ has_address_at addr.now (slice_get run.now 0) }
 {
     match run.first() {
-        Some(link) => link.addr.is_same(&addr),
+        Some(link) => link.addr.is_same(addr),
         None => false,
     }
 }

@@ -7,6 +7,6 @@ use Rattle.govern_rules.proofs.links.start_of.Goals as goal
 
 pub returns : goal.returns
 returns c =
-    place_is (is_below c.args.addr) c.args.links.now c.partition_point.result c.partition_point.ensures.bound
-    (IsPartitionPoint-from_clause (is_below c.args.addr) c.args.links.now c.partition_point.result c.partition_point.ensures.partitioned
-    (partitioned c.args.addr c.args.links.now c.requires) (λ a r f k. search rules))
+    place_is (is_below c.args.addr.now) c.args.links.now c.partition_point.result c.partition_point.ensures.bound
+    (IsPartitionPoint-from_clause (is_below c.args.addr.now) c.args.links.now c.partition_point.result c.partition_point.ensures.partitioned
+    (partitioned c.args.addr.now c.args.links.now c.requires) (λ a r f k. search rules))

@@ -10,5 +10,5 @@ pub returns-then-starts_elsewhere : goal.returns-then-starts_elsewhere
 returns-then-starts_elsewhere c =
     let links : List Link = c.args.links.now in
     sym (ap (list_any (has_mark c.args.mark))
-    (none_from c.args.addr c.args.run.now (drop c.args.start links) (in_order-drop c.args.start links c.requires.ordered) c.requires.above c.requires.run
+    (none_from c.args.addr.now c.args.run.now (drop c.args.start links) (in_order-drop c.args.start links c.requires.ordered) c.requires.above c.requires.run
     (sym c.starts_elsewhere.ensures ∙ c.if-starts_elsewhere.true)))

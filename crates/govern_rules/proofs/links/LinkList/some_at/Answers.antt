@@ -9,14 +9,14 @@ use Rattle.govern_rules.proofs.links.LinkList.some_at.Goals as goal
 pub some_from-requires-clause-above : goal.some_from-requires-clause-above
 some_from-requires-clause-above c =
     let all : List Link = c.self.inside.all.now in
-    let start : c.args.start ≡ prefix_len (is_below c.args.addr) all = c.requires ∙ ap (prefix_len (is_below c.args.addr)) (sym c.self.view_is) in
-    subst (λ n. AreNotBelow c.args.addr (drop n all)) (sym start) (not_below c.args.addr all c.self.invariant.ordered)
+    let start : c.args.start ≡ prefix_len (is_below c.args.addr.now) all = c.requires ∙ ap (prefix_len (is_below c.args.addr.now)) (sym c.self.view_is) in
+    subst (λ n. AreNotBelow c.args.addr.now (drop n all)) (sym start) (not_below c.args.addr.now all c.self.invariant.ordered)
 
 pub returns : goal.returns
 returns c =
     let all : List Link = c.self.inside.all.now in
-    let start : c.args.start ≡ prefix_len (is_below c.args.addr) all = c.requires ∙ ap (prefix_len (is_below c.args.addr)) (sym c.self.view_is) in
+    let start : c.args.start ≡ prefix_len (is_below c.args.addr.now) all = c.requires ∙ ap (prefix_len (is_below c.args.addr.now)) (sym c.self.view_is) in
     c.some_from.ensures
-    ∙ (ap (λ n. list_any (has_mark c.args.mark) (links_of c.args.addr (drop n all))) start
-    ∙ (ap (list_any (has_mark c.args.mark)) (own_behind c.args.addr all)
-    ∙ ap (λ l. list_any (has_mark c.args.mark) (links_of c.args.addr l)) c.self.view_is))
+    ∙ (ap (λ n. list_any (has_mark c.args.mark) (links_of c.args.addr.now (drop n all))) start
+    ∙ (ap (list_any (has_mark c.args.mark)) (own_behind c.args.addr.now all)
+    ∙ ap (λ l. list_any (has_mark c.args.mark) (links_of c.args.addr.now l)) c.self.view_is))

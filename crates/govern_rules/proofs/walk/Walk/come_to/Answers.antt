@@ -15,8 +15,8 @@ pub returns-clause-none : goal.returns-clause-none
 returns-clause-none c = λ none.
     let links : List Link = c.args.self.now in
     let run : List Link = c.run_from-run.result.now in
-    let place : c.place_of-place.result ≡ prefix_len (is_below c.args.addr) links = c.place_of-place.ensures in
-    none_there c.args.addr links run (subst IsInOrder c.self.view_is c.self.invariant.ordered)
+    let place : c.place_of-place.result ≡ prefix_len (is_below c.args.addr.now) links = c.place_of-place.ensures in
+    none_there c.args.addr.now links run (subst IsInOrder c.self.view_is c.self.invariant.ordered)
     (subst (λ n. IsRunFrom n links run) place c.run_from-run.ensures.front)
     (subst (λ n. n < length links → 0 < length run) place c.run_from-run.ensures.some)
     (sym c.starts_at.ensures ∙ not_there c.starts_at.result c.place_of-place.result (sym c.then_some.ensures ∙ none))

@@ -10,6 +10,6 @@ is_not false h = refl
 
 pub returns-then-is_before_first : goal.returns-then-is_before_first
 returns-then-is_before_first c = λ passed.
-    subst (λ links. links_of c.args.addr links ≡ []) c.self.view_is
-    (passed_by_all c.args.addr c.self.inside.links.now c.self.inside.last c.self.inside.place c.self.inside.run.now c.self.invariant
+    subst (λ links. links_of c.args.addr.now links ≡ []) c.self.view_is
+    (passed_by_all c.args.addr.now c.self.inside.links.now c.self.inside.last c.self.inside.place c.self.inside.run.now c.self.invariant
     (sym c.is_over.ensures ∙ is_not c.is_over.result passed) (sym c.is_before_first.ensures ∙ c.if-is_before_first.true))
