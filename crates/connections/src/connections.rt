@@ -22,7 +22,6 @@ use timer_queue::TimerQueue;
 
 /// The connections that stand, with what is read and owed of each, in order of id, their deadlines as timers, and what
 /// the rules see of them.
-#[derive(Drop)]
 pub struct Connections {
     alloc: Global,
     kept: Kept,
@@ -41,6 +40,18 @@ impl Model for Connections {
     ghost view = { λ c. standing c.kept };
 
     ghost invariant = { λ c. IsWhole c.kept × (IsTimed (standing c.kept) c.timers × IsLinked (standing c.kept) c.links) };
+}
+
+// By hand, so that it is a function, and not said anew in each function that may let them go.
+impl Drop for Connections {
+    fn drop(self) {
+        let Connections {
+            alloc: _,
+            kept: _,
+            timers: _,
+            links: _,
+        } = self;
+    }
 }
 
 impl Connections {

@@ -27,7 +27,6 @@ use std::marker::Model;
 use timer_queue::TimerQueue;
 
 /// What a node knows. Contracts see the machine's record.
-#[derive(Drop)]
 pub struct NodeState {
     alloc: Global,
     moment: u64,
@@ -47,6 +46,19 @@ impl Model for NodeState {
     ghost view = { λ s. machine_of s.moment s.peers s.connections };
 
     ghost invariant = { λ s. s.moment ≤ 2 ^ 48 };
+}
+
+// By hand, so that it is a function, and not said anew wherever a state is let go.
+impl Drop for NodeState {
+    fn drop(self) {
+        let NodeState {
+            alloc: _,
+            moment: _,
+            peers: _,
+            connections: _,
+            memory: _,
+        } = self;
+    }
 }
 
 impl NodeState {

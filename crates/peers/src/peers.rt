@@ -13,7 +13,6 @@ use std::alloc::Global;
 use std::marker::Model;
 
 /// What is known of peers, and what is wanted of them.
-#[derive(Drop)]
 pub struct Peers {
     alloc: Global,
     targets: Targets,
@@ -41,6 +40,21 @@ impl Model for Peers {
     } };
 
     ghost invariant = { λ p. IfSome p.tellable (λ addrs. AreTellable addrs p.book p.groups p.roots.publics) };
+}
+
+// By hand, so that it is a function, and not said anew in each function that may let them go.
+impl Drop for Peers {
+    fn drop(self) {
+        let Peers {
+            alloc: _,
+            targets: _,
+            big_targets: _,
+            groups: _,
+            roots: _,
+            book: _,
+            tellable: _,
+        } = self;
+    }
 }
 
 impl Peers {
