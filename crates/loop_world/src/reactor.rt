@@ -61,21 +61,19 @@ impl Reactor {
         config: &Config,
         publics: &AddrList,
     ) -> Result<Reactor, WorldRefusal> {
-        let poll = told(Poll::new(rt))?;
-        let mut listener = told(TcpListener::bind(rt, socket_addr(config.settings.own)))?;
-        told(
-            poll.registry()
-                .register(&mut listener, LISTENER, Interest::READABLE),
-        )?;
+        let start = told(Instant::now(rt))?;
+        let (ready, buffer) = room(alloc)?;
+        let flow = SocketFlow::new(alloc, terms_of(config), publics)?;
+        let (poll, listener) = listening(rt, config.settings.own)?;
         Ok(Reactor {
             poll,
-            ready: events(alloc)?,
+            ready,
             listener,
             streams: HashMap::new(alloc),
-            flow: SocketFlow::new(alloc, terms_of(config), publics)?,
-            start: told(Instant::now(rt))?,
+            flow,
+            start,
             generator: Pcg64::seed_from_u64(config.seed),
-            buffer: buffer(alloc)?,
+            buffer,
         })
     }
 
@@ -260,12 +258,22 @@ fn terms_of(config: &Config) -> Terms {
     }
 }
 
-fn events(alloc: Global) -> Result<Events, OutOfMemory> {
-    Ok(Events::with_capacity(alloc, TOLD_MOST)?)
+// A socket that listens at an address, and what waits for it.
+fn listening<R: Net>(rt: &R, own: Addr) -> Result<(Poll, TcpListener), WorldRefusal> {
+    let poll = told(Poll::new(rt))?;
+    let mut listener = told(TcpListener::bind(rt, socket_addr(own)))?;
+    told(
+        poll.registry()
+            .register(&mut listener, LISTENER, Interest::READABLE),
+    )?;
+    Ok((poll, listener))
 }
 
-fn buffer(alloc: Global) -> Result<Vec<u8>, OutOfMemory> {
-    Ok(Vec::from_elem(alloc, 0, READ_MOST)?)
+// Memory for what is told in one wait, and for one read.
+fn room(alloc: Global) -> Result<(Events, Vec<u8>), OutOfMemory> {
+    let ready = Events::with_capacity(alloc, TOLD_MOST)?;
+    let buffer = Vec::from_elem(alloc, 0, READ_MOST)?;
+    Ok((ready, buffer))
 }
 
 // What fails here is a fault of the world.
