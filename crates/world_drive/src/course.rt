@@ -43,25 +43,16 @@ impl Course {
     }
 
     /// One event of the town, and what the machine does about it.
-    pub(crate) fn turn(self) -> Result<Course, OutOfMemory>
-        requires few { self.engine.events < 1_000_000 }
-        ensures turned { IfOk result (λ c. (d : Drilled) → StandsAt self.world.town self.engine.machine self.counts d
-            → StandsAt c.world.town c.engine.machine c.counts (turned d)) }
-        ensures events { IfOk result (λ c. c.engine.events ≡ self.engine.events + 1) }
+    pub(crate) fn turn(&mut self) -> Result<(), OutOfMemory>
+        requires few { self.old.engine.events < 1_000_000 }
+        ensures turned { OnOk result ((d : Drilled) → StandsAt self.old.world.town self.old.engine.machine self.old.counts d
+            → StandsAt self.new.world.town self.new.engine.machine self.new.counts (turned d)) }
+        ensures events { OnOk result (self.new.engine.events ≡ self.old.engine.events + 1) }
     {
-        let Course {
-            mut world,
-            engine,
-            mut counts,
-        } = self;
-        let event = next_event(&mut world)?;
-        let (engine, actions) = engine.step(event)?;
-        act_all(actions.as_slice(), &mut world, &mut counts)?;
-        Ok(Course {
-            world,
-            engine,
-            counts,
-        })
+        let event = next_event(&mut self.world)?;
+        let actions = self.engine.step_in_place(&event)?;
+        act_all(actions.as_slice(), &mut self.world, &mut self.counts)?;
+        Ok(())
     }
 
     /// What is told of it.

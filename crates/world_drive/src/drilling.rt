@@ -1,4 +1,4 @@
-ghost use Rattle.std.specs.Prelude.{◌≡◌, ◌≤◌, IfOk};
+ghost use Rattle.std.specs.Prelude.{◌≡◌, ◌≤◌, IfOk, OnOk};
 ghost use Rattle.world_drive.specs.Drill.{drilled, tallies, drill_text, IsDrilled};
 ghost use Rattle.world_drive.specs.DrillCourse.{StandsAt};
 ghost use Rattle.world_drive.specs.Lawful.{DrillsLawfully};
@@ -49,21 +49,21 @@ fn tallies(alloc: Global, seed: u64, count: u64) -> Result<Tallies, OutOfMemory>
     let ranked = RankedPicker::new(Box::new(alloc, |addr: Addr, failures: u64, word: u64| {
         ranked_score(addr, failures, word)
     })?);
-    let course = Course::new(alloc, seed, Pickers { picker, ranked })?;
-    Ok(run(seed, count, course)?.tallies())
+    let mut course = Course::new(alloc, seed, Pickers { picker, ranked })?;
+    run(seed, count, &mut course)?;
+    Ok(course.tallies())
 }
 
 // The town of a seed behind as many events.
-fn run(seed: u64, count: u64, course: Course) -> Result<Course, OutOfMemory>
+fn run(seed: u64, count: u64, course: &mut Course) -> Result<(), OutOfMemory>
     requires few { count ≤ 1_000_000 }
-    requires none { course.engine.events ≡ 0 }
-    requires begun { StandsAt course.world.town course.engine.machine course.counts (drilled seed 0) }
-    ensures stands { IfOk result (λ c. StandsAt c.world.town c.engine.machine c.counts (drilled seed count)) }
-    ensures events { IfOk result (λ c. c.engine.events ≡ count) }
+    requires none { course.old.engine.events ≡ 0 }
+    requires begun { StandsAt course.old.world.town course.old.engine.machine course.old.counts (drilled seed 0) }
+    ensures stands { OnOk result (StandsAt course.new.world.town course.new.engine.machine course.new.counts (drilled seed count)) }
+    ensures events { OnOk result (course.new.engine.events ≡ count) }
 {
-    let mut course = course;
     for turn in 0..count {
-        course = course.turn()?;
+        course.turn()?;
     }
-    Ok(course)
+    Ok(())
 }

@@ -84,27 +84,28 @@ fn drive_anew<W: World, K: Sink>(
     let ranked = RankedPicker::new(Box::new(alloc, |addr: Addr, failures: u64, word: u64| {
         ranked_score(addr, failures, word)
     })?);
-    let engine = first_engine(alloc, *settings, Pickers { picker, ranked })?;
+    let mut engine = first_engine(alloc, *settings, Pickers { picker, ranked })?;
     let mut pieces = PieceWriter::new(alloc)?;
-    match drive_all(
+    let driven = drive_all(
         alloc,
-        engine,
+        &mut engine,
         settings,
         first,
         world,
         count,
         &mut pieces,
         out,
-    ) {
-        Ok(()) => Ok(Outcome::Done),
-        Err(outcome) => Ok(outcome),
-    }
+    );
+    Ok(match driven {
+        Ok(()) => Outcome::Done,
+        Err(outcome) => outcome,
+    })
 }
 
 // The head, the events that are given, those of the world, and the end.
 fn drive_all<W: World, K: Sink>(
     alloc: Global,
-    engine: Engine,
+    engine: &mut Engine,
     settings: &Settings,
     first: &[Event],
     world: &mut W,
@@ -116,8 +117,8 @@ fn drive_all<W: World, K: Sink>(
     requires sound { AreSound settings.now }
     requires within { All IsWithinLimits first.now }
     requires few { length first.now + count ≤ 1_000_000 }
-    requires none { engine.events ≡ 0 }
-    requires start { engine.machine ≡ start_of settings.now }
+    requires none { engine.old.events ≡ 0 }
+    requires start { engine.old.machine ≡ start_of settings.now }
     requires silent { pieces.old ≡ [] }
     ensures drives { Drives settings.now first.now count (W.taken world.old) (W.taken world.new) (W.done world.old) (W.done world.new)
         (W.has_ended world.new) (K.taken out.old) (K.taken out.new) (outcome_of_drive result) }
@@ -128,7 +129,7 @@ fn drive_all<W: World, K: Sink>(
 {
     hold_address(settings.own);
     put_head(alloc, settings, out)?;
-    let engine = take_first(alloc, engine, first, world, pieces, out)?;
+    take_first(alloc, engine, first, world, pieces, out)?;
     take_from(alloc, engine, world, count, pieces, out)?;
     put_end(pieces, out)
 }
@@ -160,19 +161,19 @@ fn put_head<K: Sink>(alloc: Global, settings: &Settings, out: &mut K) -> Result<
 // The events that are given.
 fn take_first<W: World, K: Sink>(
     alloc: Global,
-    engine: Engine,
+    engine: &mut Engine,
     first: &[Event],
     world: &mut W,
     pieces: &mut PieceWriter,
     out: &mut K,
-) -> Result<Engine, Outcome>
+) -> Result<(), Outcome>
     requires open { W.is_open world.old ≡ true }
-    requires few { engine.events + length first.now ≤ 1_000_000 }
+    requires few { engine.old.events + length first.now ≤ 1_000_000 }
     requires within { All IsWithinLimits first.now }
     requires silent { pieces.old ≡ [] }
-    ensures ran { IfOk result (λ e. Ran engine.machine first.now e.machine (W.done world.old) (W.done world.new) (K.taken out.old) (K.taken out.new)) }
-    ensures broke { IfErr result (BrokeAt engine.machine first.now (W.done world.old) (W.done world.new) (K.taken out.old) (K.taken out.new)) }
-    ensures events { IfOk result (λ e. e.events ≡ engine.events + length first.now) }
+    ensures ran { OnOk result (Ran engine.old.machine first.now engine.new.machine (W.done world.old) (W.done world.new) (K.taken out.old) (K.taken out.new)) }
+    ensures broke { IfErr result (BrokeAt engine.old.machine first.now (W.done world.old) (W.done world.new) (K.taken out.old) (K.taken out.new)) }
+    ensures events { OnOk result (engine.new.events ≡ engine.old.events + length first.now) }
     ensures silent { OnOk result (pieces.new ≡ []) }
     ensures open { W.is_open world.new ≡ true }
     ensures opening { W.opening world.new ≡ W.opening world.old }
@@ -180,37 +181,35 @@ fn take_first<W: World, K: Sink>(
     ensures worlds { MatchResult result (λ _. W.faults world.new ≡ W.faults world.old) (HasWorldCount (W.faults world.old) (W.faults world.new)) }
     ensures writes { MatchResult result (λ _. K.faults out.new ≡ K.faults out.old) (HasWriteCount (K.faults out.old) (K.faults out.new)) }
 {
-    let mut engine = engine;
     for event in first {
-        engine = take(alloc, engine, event, world, pieces, out)?;
+        take(alloc, engine, event, world, pieces, out)?;
     }
-    Ok(engine)
+    Ok(())
 }
 
 // As many events of the world, or those up to its end.
 fn take_from<W: World, K: Sink>(
     alloc: Global,
-    engine: Engine,
+    engine: &mut Engine,
     world: &mut W,
     count: u64,
     pieces: &mut PieceWriter,
     out: &mut K,
 ) -> Result<(), Outcome>
     requires open { W.is_open world.old ≡ true }
-    requires few { engine.events + count ≤ 1_000_000 }
+    requires few { engine.old.events + count ≤ 1_000_000 }
     requires silent { pieces.old ≡ [] }
-    ensures came { OnOk result (Came engine.machine count (W.taken world.old) (W.taken world.new) (W.has_ended world.new) (W.done world.old) (W.done world.new) (K.taken out.old) (K.taken out.new)) }
-    ensures stopped { IfErr result (Stopped engine.machine count (W.taken world.old) (W.taken world.new) (W.done world.old) (W.done world.new) (K.taken out.old) (K.taken out.new)) }
+    ensures came { OnOk result (Came engine.old.machine count (W.taken world.old) (W.taken world.new) (W.has_ended world.new) (W.done world.old) (W.done world.new) (K.taken out.old) (K.taken out.new)) }
+    ensures stopped { IfErr result (Stopped engine.old.machine count (W.taken world.old) (W.taken world.new) (W.done world.old) (W.done world.new) (K.taken out.old) (K.taken out.new)) }
     ensures silent { OnOk result (pieces.new ≡ []) }
     ensures open { W.is_open world.new ≡ true }
     ensures opening { W.opening world.new ≡ W.opening world.old }
     ensures worlds { MatchResult result (λ _. W.faults world.new ≡ W.faults world.old) (HasWorldCount (W.faults world.old) (W.faults world.new)) }
     ensures writes { MatchResult result (λ _. K.faults out.new ≡ K.faults out.old) (HasWriteCount (K.faults out.old) (K.faults out.new)) }
 {
-    let mut engine = engine;
     for turn in 0..count {
         match next(world)? {
-            Next::Event(event) => engine = take(alloc, engine, &event, world, pieces, out)?,
+            Next::Event(event) => take(alloc, engine, &event, world, pieces, out)?,
             Next::End => return Ok(()),
         }
     }
@@ -220,19 +219,19 @@ fn take_from<W: World, K: Sink>(
 // One event: the step, the writing, and each action in its order.
 fn take<W: World, K: Sink>(
     alloc: Global,
-    engine: Engine,
+    engine: &mut Engine,
     event: &Event,
     world: &mut W,
     pieces: &mut PieceWriter,
     out: &mut K,
-) -> Result<Engine, Outcome>
+) -> Result<(), Outcome>
     requires open { W.is_open world.old ≡ true }
-    requires few { engine.events < 1_000_000 }
+    requires few { engine.old.events < 1_000_000 }
     requires within { IsWithinLimits event.now }
     requires silent { pieces.old ≡ [] }
-    ensures ran { IfOk result (λ e. Ran engine.machine (event.now ∷ []) e.machine (W.done world.old) (W.done world.new) (K.taken out.old) (K.taken out.new)) }
-    ensures broke { IfErr result (Broke engine.machine [] event.now (W.done world.old) (W.done world.new) (K.taken out.old) (K.taken out.new)) }
-    ensures events { IfOk result (λ e. e.events ≡ engine.events + 1) }
+    ensures ran { OnOk result (Ran engine.old.machine (event.now ∷ []) engine.new.machine (W.done world.old) (W.done world.new) (K.taken out.old) (K.taken out.new)) }
+    ensures broke { IfErr result (Broke engine.old.machine [] event.now (W.done world.old) (W.done world.new) (K.taken out.old) (K.taken out.new)) }
+    ensures events { OnOk result (engine.new.events ≡ engine.old.events + 1) }
     ensures silent { OnOk result (pieces.new ≡ []) }
     ensures open { W.is_open world.new ≡ true }
     ensures opening { W.opening world.new ≡ W.opening world.old }
@@ -241,38 +240,38 @@ fn take<W: World, K: Sink>(
     ensures worlds { MatchResult result (λ _. W.faults world.new ≡ W.faults world.old) (HasWorldCount (W.faults world.old) (W.faults world.new)) }
     ensures writes { MatchResult result (λ _. K.faults out.new ≡ K.faults out.old) (HasWriteCount (K.faults out.old) (K.faults out.new)) }
 {
-    let (engine, actions) = say(alloc, engine, event, pieces, out)?;
+    let actions = say(alloc, engine, event, pieces, out)?;
     act_all(actions.as_slice(), world)?;
-    Ok(engine)
+    Ok(())
 }
 
 // The step of an event, and the writing. Nothing is pending then.
 #[tactic(auto, unfolding(trace_compare::specs::RunText::event_text))]
 fn say<K: Sink>(
     alloc: Global,
-    engine: Engine,
+    engine: &mut Engine,
     event: &Event,
     pieces: &mut PieceWriter,
     out: &mut K,
-) -> Result<(Engine, ActionList), Outcome>
-    requires few { engine.events < 1_000_000 }
+) -> Result<ActionList, Outcome>
+    requires few { engine.old.events < 1_000_000 }
     requires within { IsWithinLimits event.now }
     requires silent { pieces.old ≡ [] }
-    ensures machine { IfOk result (λ r. r.0.machine ≡ (step engine.machine event.now).machine) }
-    ensures events { IfOk result (λ r. r.0.events ≡ engine.events + 1) }
-    ensures actions { IfOk result (λ r. r.1 ≡ (step engine.machine event.now).actions) }
-    ensures said { OnOk result (Takes (K.taken out.old) (K.taken out.new) (event_text engine.machine event.now)) }
+    ensures machine { OnOk result (engine.new.machine ≡ (step engine.old.machine event.now).machine) }
+    ensures events { OnOk result (engine.new.events ≡ engine.old.events + 1) }
+    ensures actions { IfOk result (λ actions. actions ≡ (step engine.old.machine event.now).actions) }
+    ensures said { OnOk result (Takes (K.taken out.old) (K.taken out.new) (event_text engine.old.machine event.now)) }
     ensures silent { OnOk result (pieces.new ≡ []) }
-    ensures unsaid { IfErr result (IsUnsaid (K.taken out.old) (K.taken out.new) (event_text engine.machine event.now)) }
+    ensures unsaid { IfErr result (IsUnsaid (K.taken out.old) (K.taken out.new) (event_text engine.old.machine event.now)) }
     ensures traced { IsEventIn 2 event.now }
     ensures writes { MatchResult result (λ _. K.faults out.new ≡ K.faults out.old) (HasWriteCount (K.faults out.old) (K.faults out.new)) }
 {
     hold_event(event);
     let line = print_event(alloc, event)?;
-    let (engine, actions) = engine.step_on(event)?;
+    let actions = engine.step_in_place(event)?;
     tell_line(alloc, line.as_slice(), actions.as_slice(), pieces)?;
     put_pending(pieces, out)?;
-    Ok((engine, actions))
+    Ok(actions)
 }
 
 // Has the world do each action.

@@ -6,9 +6,9 @@ use Rattle.world_drive.proofs.drilling.run.Goals as goal
 
 pub loop-turn-preserved : goal.loop-turn-preserved
 loop-turn-preserved g c = record {
-  stands = subst (λ (d : Drilled). StandsAt c.in_ok-course.course.world.town c.in_ok-course.course.engine.machine c.in_ok-course.course.counts d)
-      (drilled-more c.args.seed c.loop-turn.turn) (c.in_ok-course.ensures.turned (drilled c.args.seed c.loop-turn.turn) c.loop-turn.invariant.stands);
-  events = c.in_ok-course.ensures.events ∙ ap (λ n. n + 1) c.loop-turn.invariant.events;
+  stands = subst (λ (d : Drilled). StandsAt c.turn.new.self.world.town c.turn.new.self.engine.machine c.turn.new.self.counts d)
+      (drilled-more c.args.seed c.loop-turn.turn) (c.in_ok-turn.ensures.turned (drilled c.args.seed c.loop-turn.turn) c.loop-turn.invariant.stands);
+  events = c.in_ok-turn.ensures.events ∙ ap (λ n. n + 1) c.loop-turn.invariant.events;
 }
 
 -- the loop is over at the last turn

@@ -4,5 +4,5 @@ use Rattle.world_drive.proofs.driving.say.Goals as goal
 
 pub returns-clause-said : goal.returns-clause-said
 returns-clause-said g c =
-    said-text c.args.engine.machine c.args.event.now c.args.pieces.now c.tell_line.new.pieces c.as_slice.result.now c.as_slice-2.result.now _ _
-    c.requires.silent (c.as_slice.ensures ∙ c.in_ok-line.ensures.printed) (c.as_slice-2.ensures ∙ c.in_ok-engine.ensures.actions) c.in_ok-tell_line.ensures.said c.in_ok-put_pending.ensures.whole
+    said-text c.args.engine.now.machine c.args.event.now c.args.pieces.now c.tell_line.new.pieces c.as_slice.result.now c.as_slice-2.result.now _ _
+    c.requires.silent (c.as_slice.ensures ∙ c.in_ok-line.ensures.printed) (c.as_slice-2.ensures ∙ c.in_ok-actions.ensures.actions) c.in_ok-tell_line.ensures.said c.in_ok-put_pending.ensures.whole

@@ -15,22 +15,22 @@ loop-event-init g c = record {
   writes = refl;
 }
 
-pub returns-in_err-engine-clause-broke : goal.returns-in_err-engine-clause-broke
-returns-in_err-engine-clause-broke g c =
+pub returns-in_err-take-clause-broke : goal.returns-in_err-take-clause-broke
+returns-in_err-take-clause-broke g c =
     let p = err_from_is_err_and c.from_residual.result c.from_residual.ensures.1 in
     rw (p.1, p.2)
     (first-broke _ _ c.args.first.now c.loop-event.event-index c.event-item.result _ _ _ _ _ _ _ c.loop-event-test.true c.event-item.is c.loop-event.invariant.ran
-    c.in_err-engine.ensures.broke)
+    c.in_err-take.ensures.broke)
 
 pub loop-event-preserved : goal.loop-event-preserved
 loop-event-preserved g c = record {
   ran = first-ran _ _ _ c.args.first.now c.loop-event.event-index c.event-item.result _ _ _ _ _ _ c.loop-event-test.true c.event-item.is c.loop-event.invariant.ran
-      c.in_ok-engine.ensures.ran;
-  events = omega (arith, c.in_ok-engine.ensures.events, c.loop-event.invariant.events);
+      c.in_ok-take.ensures.ran;
+  events = omega (arith, c.in_ok-take.ensures.events, c.loop-event.invariant.events);
   opened = c.take.ensures.open;
   opening = c.take.ensures.opening ∙ c.loop-event.invariant.opening;
-  silent = c.in_ok-engine.ensures.silent;
+  silent = c.in_ok-take.ensures.silent;
   taken = c.take.ensures.taken ∙ c.loop-event.invariant.taken;
-  worlds = c.in_ok-engine.ensures.worlds ∙ c.loop-event.invariant.worlds;
-  writes = c.in_ok-engine.ensures.writes ∙ c.loop-event.invariant.writes;
+  worlds = c.in_ok-take.ensures.worlds ∙ c.loop-event.invariant.worlds;
+  writes = c.in_ok-take.ensures.writes ∙ c.loop-event.invariant.writes;
 }

@@ -4,9 +4,9 @@ use Rattle.world_drive.proofs.driving.take_from.Given as goal
 
 abbrev pub invariant-loop-turn : goal.invariant-loop-turn
 invariant-loop-turn g l = record {
-  ran : RanFor l.fn.engine.machine l.turn l.engine.machine (g.W.World.taken l.initial.world) (g.W.World.taken l.world) (g.W.World.done l.initial.world) (g.W.World.done l.world)
+  ran : RanFor l.initial.engine.machine l.turn l.engine.machine (g.W.World.taken l.initial.world) (g.W.World.taken l.world) (g.W.World.done l.initial.world) (g.W.World.done l.world)
       (g.K.Sink.taken l.initial.out) (g.K.Sink.taken l.out);
-  events : l.engine.events ≡ l.fn.engine.events + l.turn;
+  events : l.engine.events ≡ l.initial.engine.events + l.turn;
   opened : g.W.World.is_open l.world ≡ true;
   opening : g.W.World.opening l.world ≡ g.W.World.opening l.initial.world;
   silent : l.pieces ≡ [];
