@@ -264,7 +264,7 @@ const PIECES: [(&[u8], Result<(), Failed>, &[u8]); 5] = [
 ];
 
 fn expect_pieces(rt: &impl Abort, out: &mut MemSink) {
-    for (piece, answer, held) in PIECES {
+    for &(piece, answer, held) in &PIECES {
         assert!(rt; put_all(out, piece) == answer, "{piece:?}");
         assert!(rt; out.bytes() == held, "{piece:?}");
     }

@@ -83,7 +83,7 @@ const OWN_ADDRESSES: [(&[u8], Option<Ip>); 8] = [
 
 #[test]
 fn an_own_address_is_spelled_as_in_a_trace(rt: HostRuntime) {
-    for (text, ip) in OWN_ADDRESSES {
+    for &(text, ip) in &OWN_ADDRESSES {
         assert!(rt; is_own(&answer_to(rt.alloc(), text), ip), "{text:?}");
     }
 }
@@ -158,7 +158,7 @@ const NO_TOML: [&[u8]; 6] = [
 
 #[test]
 fn what_is_no_toml_is_refused_before_all_else(rt: HostRuntime) {
-    for text in NO_TOML {
+    for &text in &NO_TOML {
         let answer = answer_to(rt.alloc(), text);
         assert!(rt; answer == Err(ConfigRefusal::BadToml), "{text:?}");
     }

@@ -239,7 +239,7 @@ const WRONG_MEMBERS: [(&str, Field); 12] = [
 
 #[test]
 fn the_first_wrong_member_of_a_local_root_is_named(rt: HostRuntime) -> Result<(), Fail> {
-    for (members, field) in WRONG_MEMBERS {
+    for &(members, field) in &WRONG_MEMBERS {
         expect_refused(&rt, rt.alloc(), members, field)?;
     }
     Ok(())
@@ -303,7 +303,7 @@ const WRONG_OUTSIDE: [(&[u8], TopologyRefusal); 16] = [
 
 #[test]
 fn what_is_wrong_outside_a_root_is_named_too(rt: HostRuntime) {
-    for (text, refusal) in WRONG_OUTSIDE {
+    for &(text, refusal) in &WRONG_OUTSIDE {
         assert!(rt; refusal_of(rt.alloc(), text) == Some(refusal), "{text:?}");
     }
 }

@@ -226,7 +226,7 @@ fn expect_life<'a>(
 #[test]
 fn each_reading_fails_in_turn(rt: HostRuntime) -> Result<(), Fail> {
     let fault = (Status::ReadFault, "read fault\n");
-    for (call, written) in CALLS {
+    for &(call, written) in &CALLS {
         expect_life(&rt, rt.alloc(), &[call], &[], fault, written, Some(call))?;
     }
     let (_, output) = ROWS[1];
@@ -237,7 +237,7 @@ fn each_reading_fails_in_turn(rt: HostRuntime) -> Result<(), Fail> {
 #[test]
 fn each_writing_fails_in_turn(rt: HostRuntime) -> Result<(), Fail> {
     let fault = (Status::WriteFault, "write fault\n");
-    for (call, written) in CALLS {
+    for &(call, written) in &CALLS {
         expect_life(&rt, rt.alloc(), &[], &[call], fault, written, Some(call))?;
     }
     let (_, output) = ROWS[1];

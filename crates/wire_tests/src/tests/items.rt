@@ -27,7 +27,7 @@ fn fronts_go_on(item: &[u8]) -> bool {
 // Each is an item, and no front of it is.
 #[test]
 fn every_whole_item_is_found(rt: HostRuntime) {
-    for item in WHOLE_ITEMS {
+    for &item in &WHOLE_ITEMS {
         expect(&rt, is_found(item, Scan::Whole(item.len())), item);
         expect(&rt, fronts_go_on(item), item);
     }
@@ -124,7 +124,7 @@ const RESUMED: [(&[u8], usize, Scan); 8] = [
 
 #[test]
 fn a_scan_goes_on(rt: HostRuntime) {
-    for (bytes, first, found) in RESUMED {
+    for &(bytes, first, found) in &RESUMED {
         assert!(rt; first <= bytes.len());
         expect(&rt, goes_on_to(rt.alloc(), bytes, first, found), bytes);
     }
@@ -154,7 +154,7 @@ const LEVELS: [(usize, &[u8], Scan); 8] = [
 
 #[test]
 fn sixty_four_levels_are_the_most(rt: HostRuntime) {
-    for (levels, inner, found) in LEVELS {
+    for &(levels, inner, found) in &LEVELS {
         let holds = is_found_in_levels(rt.alloc(), levels, inner, found);
         expect(&rt, holds, inner);
     }
@@ -206,10 +206,10 @@ const INDEFINITE_HEADS: [(u8, u8); 5] = [(0x5f, 2), (0x7f, 3), (0x9f, 4), (0xbf,
 
 #[test]
 fn heads_of_every_width_are_read(rt: HostRuntime) {
-    for (bytes, major, value, size) in HEADS {
+    for &(bytes, major, value, size) in &HEADS {
         expect(&rt, is_definite(bytes, major, value, size), bytes);
     }
-    for (initial, major) in INDEFINITE_HEADS {
+    for &(initial, major) in &INDEFINITE_HEADS {
         expect(&rt, is_indefinite(initial, major), &[initial]);
     }
 }
@@ -231,7 +231,7 @@ const NO_HEADS: [&[u8]; 12] = [
 
 #[test]
 fn no_head_is_read_where_none_is_whole(rt: HostRuntime) {
-    for bytes in NO_HEADS {
+    for &bytes in &NO_HEADS {
         expect(&rt, is_head(bytes, None), bytes);
     }
 }
@@ -284,7 +284,7 @@ const SHORTEST: [(u8, u64, &[u8]); 12] = [
 
 #[test]
 fn the_shortest_head_is_written(rt: HostRuntime) {
-    for (major, value, spelled) in SHORTEST {
+    for &(major, value, spelled) in &SHORTEST {
         assert!(rt; major <= 7 && (major != 7 || value < 24));
         let holds = is_written_behind(rt.alloc(), major, value, spelled);
         expect(&rt, holds, spelled);

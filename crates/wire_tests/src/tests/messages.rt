@@ -152,7 +152,7 @@ fn the_vectors_are_written(rt: HostRuntime) {
     assert!(rt; matches!(writes_both(rt.alloc()), Ok(true)));
     let accept = Message::Accept(14, Info::Known(OWN));
     assert!(rt; writes(rt.alloc(), &accept, ACCEPT));
-    for (why, bytes) in REFUSALS {
+    for &(why, bytes) in &REFUSALS {
         expect(&rt, writes_refusal(rt.alloc(), why, bytes), bytes);
     }
 }
@@ -280,7 +280,7 @@ const FOREIGN: Said = Said::Accept(14, Info::Foreign);
 
 #[test]
 fn every_other_info_is_foreign(rt: HostRuntime) {
-    for info in INFOS {
+    for &info in &INFOS {
         expect(&rt, reads_accept(rt.alloc(), 14, 0, info, FOREIGN), info);
     }
     // other versions
@@ -344,7 +344,7 @@ const INFOS: [&[u8]; 19] = [
 
 #[test]
 fn what_breaks_a_rule_is_no_message(rt: HostRuntime) {
-    for bytes in NO_MESSAGES {
+    for &bytes in &NO_MESSAGES {
         expect(&rt, reads(rt.alloc(), bytes, Said::Nothing), bytes);
     }
     // every proper front of a message

@@ -57,7 +57,7 @@ const HEADERS: [([u8; 8], u32, u8, u16, u16); 4] = [
 
 #[test]
 fn headers_are_read_and_written(rt: HostRuntime) {
-    for (bytes, time, side, id, size) in HEADERS {
+    for &(bytes, time, side, id, size) in &HEADERS {
         let header = Header {
             time,
             side,
@@ -110,7 +110,7 @@ const PIECES: [(&[u8], &[Given]); 3] = [
 #[test]
 fn parts_wait_for_their_own_bytes(rt: HostRuntime) {
     let mut cutter = Cutter::new(rt.alloc());
-    for (bytes, items) in PIECES {
+    for &(bytes, items) in &PIECES {
         let holds = takes(&mut cutter, rt.alloc(), bytes, items, None);
         expect(&rt, holds, bytes);
     }
@@ -150,7 +150,7 @@ const STOPPED: [(&[u8], CutFault); 6] = [
 
 #[test]
 fn a_fault_ends_the_stream(rt: HostRuntime) {
-    for (bytes, fault) in STOPPED {
+    for &(bytes, fault) in &STOPPED {
         let mut cutter = Cutter::new(rt.alloc());
         let first = takes(
             &mut cutter,
@@ -314,7 +314,7 @@ const FRAMED: [(u8, u16, u64, &[u8], &[u8]); 4] = [
 
 #[test]
 fn payloads_are_framed(rt: HostRuntime) {
-    for (side, id, now, payload, bytes) in FRAMED {
+    for &(side, id, now, payload, bytes) in &FRAMED {
         assert!(rt; side <= 1 && id < 0x8000);
         let framed = frame(rt.alloc(), side, id, now, payload);
         expect(&rt, is_written(framed, bytes), bytes);
@@ -368,7 +368,7 @@ const SEEN: [(&[u8], &[u8]); 5] = [
 #[test]
 fn the_first_item_is_seen(rt: HostRuntime) {
     let mut cutter = Cutter::new(rt.alloc());
-    for (bytes, body) in SEEN {
+    for &(bytes, body) in &SEEN {
         expect(&rt, sees(&cutter, bytes, body), bytes);
     }
     assert!(rt; takes(&mut cutter, rt.alloc(), b"\x00", &[], None));

@@ -60,10 +60,10 @@ fn is_alive(bytes: &[u8], wanted: Option<Alive>) -> bool {
 
 #[test]
 fn keep_alive_is_read_and_written(rt: HostRuntime) {
-    for (bytes, message) in ALIVE {
+    for &(bytes, message) in &ALIVE {
         expect(&rt, is_alive(bytes, Some(message)), bytes);
     }
-    for bytes in NO_ALIVE {
+    for &bytes in &NO_ALIVE {
         expect(&rt, is_alive(bytes, None), bytes);
     }
     let written: [(Alive, &[u8]); 5] = [
@@ -227,7 +227,7 @@ const NO_SHARES: [&[u8]; 24] = [
 
 #[test]
 fn other_bytes_are_no_message_of_peer_sharing(rt: HostRuntime) {
-    for bytes in NO_SHARES {
+    for &bytes in &NO_SHARES {
         expect(&rt, is_read(rt.alloc(), bytes, Said::Nothing), bytes);
     }
 }
@@ -271,7 +271,7 @@ fn is_number_before(alloc: Global, levels: usize, number: Option<u64>) -> bool {
 
 #[test]
 fn first_numbers(rt: HostRuntime) {
-    for (bytes, number) in NUMBERS {
+    for &(bytes, number) in &NUMBERS {
         expect(&rt, is_first_number(bytes, number), bytes);
     }
     // behind the number nothing is looked at

@@ -52,7 +52,7 @@ fn traces_that_agree_are_counted(rt: HostRuntime) -> Result<(), Fail> {
     for piece in [1, 64] {
         expect_each(&rt, rt.alloc(), &CHECK, piece, &AGREEING)?;
     }
-    for (_, output) in ROWS {
+    for &(_, output) in &ROWS {
         expect_status(&rt, rt.alloc(), output, (&[], &[]), Status::Done, None)?;
     }
     Ok(())

@@ -20,7 +20,7 @@ const TOWNS: [(&[&str], &str); 3] = [
 
 #[test]
 fn towns_are_run(rt: HostRuntime) -> Result<(), Fail> {
-    for (words, output) in TOWNS {
+    for &(words, output) in &TOWNS {
         expect_each(&rt, rt.alloc(), words, 64, &[("", End::Done(output))])?;
     }
     Ok(())
