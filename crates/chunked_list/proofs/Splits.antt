@@ -46,18 +46,18 @@ module _ {T : Type 0} where
   filled-at (c ∷ cs) h (suc i) d inside = filled-at cs h.1 i d (omega arith)
 
   module _ (old new : List (Chunk T)) (i : ℕ) (d : Chunk T) (inside : i < length old) (filled : AreFilled old)
-      (full : 64 ≤ length (items_in (get_or old i d))) (split : IsSplit old i new) where
+      (full : 32 ≤ length (items_in (get_or old i d))) (split : IsSplit old i new) where
     next_is : i + 1 ≡ suc i
     next_is = omega arith
 
-    long : length (items_in (get_or old i d)) ≡ 64
+    long : length (items_in (get_or old i d)) ≡ 32
     long = omega (arith, full, (filled-at old filled i d inside).few)
 
-    low_long : length (items_in split.low) ≡ 32
-    low_long = omega (arith, long, ap length (split.low_is d), length-take 32 (items_in (get_or old i d)))
+    low_long : length (items_in split.low) ≡ 16
+    low_long = omega (arith, long, ap length (split.low_is d), length-take 16 (items_in (get_or old i d)))
 
-    high_long : length (items_in split.high) ≡ 32
-    high_long = omega (arith, long, ap length (split.high_is d), length-drop 32 (items_in (get_or old i d)))
+    high_long : length (items_in split.high) ≡ 16
+    high_long = omega (arith, long, ap length (split.high_is d), length-drop 16 (items_in (get_or old i d)))
 
     shape : new ≡ take i old ++ split.low ∷ split.high ∷ drop (suc i) old
     shape = split.new_is ∙ ap (λ n. take i old ++ split.low ∷ split.high ∷ drop n old) next_is
@@ -67,7 +67,7 @@ module _ {T : Type 0} where
         subst AreFilled (sym shape)
         (filled-around old i split.low split.high inside filled (record { some = omega (arith, low_long); few = omega (arith, low_long) }) (record { some = omega (arith, high_long); few = omega (arith, high_long) }))
 
-    pub starts-split : (first m : ℕ) → first ≡ get_or (starts 0 old) i m → starts 0 new ≡ insert (starts 0 old) (i + 1) (first + 32)
+    pub starts-split : (first m : ℕ) → first ≡ get_or (starts 0 old) i m → starts 0 new ≡ insert (starts 0 old) (i + 1) (first + 16)
     starts-split first m is =
         ap (starts 0) shape
         ∙ (starts-around 0 old i split.low split.high d m inside (omega (arith, low_long, high_long, long))
@@ -85,7 +85,7 @@ module _ {T : Type 0} where
             sym (append_assoc (items_in split.low) (items_in split.high) (joined (drop (suc i) old)))
             ∙ ap (λ l. l ++ joined (drop (suc i) old))
             (ap (λ l. l ++ items_in split.high) (split.low_is d)
-            ∙ (ap (λ l. take 32 (items_in (get_or old i d)) ++ l) (split.high_is d) ∙ take-append-drop 32 (items_in (get_or old i d))))
+            ∙ (ap (λ l. take 16 (items_in (get_or old i d)) ++ l) (split.high_is d) ∙ take-append-drop 16 (items_in (get_or old i d))))
 
     front_long : length (take i old) ≡ i
     front_long = omega (arith, inside, length-take i old)
@@ -117,35 +117,35 @@ module _ {T : Type 0} where
     new_long : length new ≡ i + 2 + length (drop (suc i) old)
     new_long = omega (arith, front_long, ap length shape, length-append (take i old) (split.low ∷ split.high ∷ drop (suc i) old))
 
-    front-high : length (joined (take (i + 1) new)) ≡ length (joined (take i old)) + 32
+    front-high : length (joined (take (i + 1) new)) ≡ length (joined (take i old)) + 16
     front-high =
         ap (λ l. length (joined l)) take-high
         ∙ (ap length (joined-append (take i old) (split.low ∷ []))
         ∙ omega (arith, low_long, length-append (joined (take i old)) (items_in split.low ++ []), length-append (items_in split.low) []))
 
     pub room-split : (at : ℕ) → HasRoom new (halved (record { chunk = i; at = at })).chunk
-    room-split at e = elim (cases_Bool (nat_lt at 32)) [
+    room-split at e = elim (cases_Bool (nat_lt at 16)) [
       | inl low ↦ rw (low, get-low e) (omega (arith, low_long))
       | inr high ↦ rw (high, get-high e) (omega (arith, high_long))
     ]
 
     pub place-split : (at : ℕ) → place_of new (halved (record { chunk = i; at = at })) ≡ place_of old (record { chunk = i; at = at })
-    place-split at = elim (cases_Bool (nat_lt at 32)) [
+    place-split at = elim (cases_Bool (nat_lt at 16)) [
       | inl low ↦ rw low (ap (λ l. length (joined l) + at) take-low)
       | inr high ↦ rw high (omega (arith, front-high, not_low at high))
     ]
       where
-        not_low : (at : ℕ) → nat_lt at 32 ≡ false → 32 ≤ at
+        not_low : (at : ℕ) → nat_lt at 16 ≡ false → 16 ≤ at
         not_low at h = grind (arith, nat_tests)
 
     pub inside-split : (at : ℕ) → at < length (items_in (get_or old i d)) → IsInside new (halved (record { chunk = i; at = at }))
-    inside-split at within = elim (cases_Bool (nat_lt at 32)) [
+    inside-split at within = elim (cases_Bool (nat_lt at 16)) [
       | inl low ↦ rw low (record { chunk = omega (arith, new_long); at = λ e. rw (get-low e) (omega (arith, low_long, is_low at low)) })
       | inr high ↦ rw high (record { chunk = omega (arith, new_long); at = λ e. rw (get-high e) (omega (arith, high_long, long, within, not_low at high)) })
     ]
       where
-        is_low : (at : ℕ) → nat_lt at 32 ≡ true → at < 32
+        is_low : (at : ℕ) → nat_lt at 16 ≡ true → at < 16
         is_low at h = grind (arith, nat_tests)
 
-        not_low : (at : ℕ) → nat_lt at 32 ≡ false → 32 ≤ at
+        not_low : (at : ℕ) → nat_lt at 16 ≡ false → 16 ≤ at
         not_low at h = grind (arith, nat_tests)

@@ -16,7 +16,7 @@ module _ {T : Type 0} where
   -- a chunk has some items, and not too many
   pub record IsFilled (c : Chunk T) : Type 0 where
     pub some : 0 < length (items_in c)
-    pub few : length (items_in c) ≤ 64
+    pub few : length (items_in c) ≤ 32
 
   abbrev pub AreFilled : List (Chunk T) → Type 0
   AreFilled cs = AllByRecursion IsFilled cs
@@ -44,7 +44,7 @@ module _ {T : Type 0} where
 
   -- its chunk has room for one more
   abbrev pub HasRoom : List (Chunk T) → ℕ → Type 0
-  HasRoom cs i = (d : Chunk T) → length (items_in (slice_index_or cs i d)) < 64
+  HasRoom cs i = (d : Chunk T) → length (items_in (slice_index_or cs i d)) < 32
 
   -- its first item passes
   abbrev pub first_passes : (T → Bool) → List T → Bool
@@ -60,17 +60,17 @@ module _ {T : Type 0} where
     pub low : Chunk T
     pub high : Chunk T
     pub new_is : new ≡ take i old ++ low ∷ high ∷ drop (i + 1) old
-    pub low_is : (d : Chunk T) → items_in low ≡ take 32 (items_in (slice_index_or old i d))
-    pub high_is : (d : Chunk T) → items_in high ≡ drop 32 (items_in (slice_index_or old i d))
+    pub low_is : (d : Chunk T) → items_in low ≡ take 16 (items_in (slice_index_or old i d))
+    pub high_is : (d : Chunk T) → items_in high ≡ drop 16 (items_in (slice_index_or old i d))
 
   -- ---- two chunks that can be one
 
   -- the chunk at a place has the memory for its items and those of the one behind it, and they are not too many
   pub record CanJoin (cs : List (Chunk T)) (i : ℕ) : Type 0 where
     pub there : i + 1 < length cs
-    pub few : (d : Chunk T) → length (items_in (slice_index_or cs i d)) + length (items_in (slice_index_or cs (i + 1) d)) ≤ 64
+    pub few : (d : Chunk T) → length (items_in (slice_index_or cs i d)) + length (items_in (slice_index_or cs (i + 1) d)) ≤ 32
     pub room : (d : Chunk T) → length (items_in (slice_index_or cs i d)) + length (items_in (slice_index_or cs (i + 1) d)) ≤ vec_capacity (slice_index_or cs i d).items
 
 -- the spot of an item of a chunk that was cut in two
 abbrev pub halved : Spot → Spot
-halved s = if nat_lt s.at 32 then s else record { chunk = s.chunk + 1; at = s.at - 32 }
+halved s = if nat_lt s.at 16 then s else record { chunk = s.chunk + 1; at = s.at - 16 }

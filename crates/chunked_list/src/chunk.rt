@@ -4,11 +4,11 @@ ghost use Rattle.std.specs.List.{insert};
 use net_base::OutOfMemory;
 
 // How many items a chunk has at most.
-pub const LIMIT: usize = 64;
+pub const LIMIT: usize = 32;
 // How many items a full chunk keeps where it is cut in two.
-pub const HALF: usize = 32;
+pub const HALF: usize = 16;
 // How many items two neighbours have at most that are joined.
-pub const JOINED: usize = 48;
+pub const JOINED: usize = 24;
 
 // Items that stand one after another.
 #[derive(Drop)]

@@ -61,7 +61,7 @@ fn make_room<T: Drop>(
 // Cuts a full chunk in two.
 fn split<T: Drop>(chunks: &mut Vec<Chunk<T>>, chunk: usize) -> Result<(), AllocError>
     requires there { chunk < length chunks.old.items }
-    requires long { (d : _) → 32 ≤ length (items_in (slice_index_or chunks.old.items chunk d)) }
+    requires long { (d : _) → 16 ≤ length (items_in (slice_index_or chunks.old.items chunk d)) }
     ensures ok { OnOk result (IsSplit chunks.old.items chunk chunks.new.items) }
     ensures err { OnErr result (chunks.new.items ≡ chunks.old.items) }
 {

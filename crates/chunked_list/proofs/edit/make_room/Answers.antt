@@ -11,7 +11,7 @@ returns-clause-filled g c =
     let old = c.args.chunks.now.items in
     let i = c.args.spot.chunk in
     let d = c.index.result.now in
-    let full : 64 ≤ length (items_in (get_or old i d)) = omega (arith, c.len.ensures, c.if-len-lt-LIMIT.false, ap (λ x. length (items_in x)) c.index.ensures) in
+    let full : 32 ≤ length (items_in (get_or old i d)) = omega (arith, c.len.ensures, c.if-len-lt-LIMIT.false, ap (λ x. length (items_in x)) c.index.ensures) in
     filled-split old c.split.new.chunks.items i d c.requires.inside.chunk c.requires.filled full c.in_ok-split.ensures.ok
 
 pub returns-clause-same : goal.returns-clause-same
@@ -19,7 +19,7 @@ returns-clause-same g c =
     let old = c.args.chunks.now.items in
     let i = c.args.spot.chunk in
     let d = c.index.result.now in
-    let full : 64 ≤ length (items_in (get_or old i d)) = omega (arith, c.len.ensures, c.if-len-lt-LIMIT.false, ap (λ x. length (items_in x)) c.index.ensures) in
+    let full : 32 ≤ length (items_in (get_or old i d)) = omega (arith, c.len.ensures, c.if-len-lt-LIMIT.false, ap (λ x. length (items_in x)) c.index.ensures) in
     joined-split old c.split.new.chunks.items i d c.requires.inside.chunk c.requires.filled full c.in_ok-split.ensures.ok
 
 pub returns-clause-inside : goal.returns-clause-inside
@@ -27,7 +27,7 @@ returns-clause-inside g c =
     let old = c.args.chunks.now.items in
     let i = c.args.spot.chunk in
     let d = c.index.result.now in
-    let full : 64 ≤ length (items_in (get_or old i d)) = omega (arith, c.len.ensures, c.if-len-lt-LIMIT.false, ap (λ x. length (items_in x)) c.index.ensures) in
+    let full : 32 ≤ length (items_in (get_or old i d)) = omega (arith, c.len.ensures, c.if-len-lt-LIMIT.false, ap (λ x. length (items_in x)) c.index.ensures) in
     subst (λ s. IsInside c.split.new.chunks.items s) (sym c.halved.ensures)
     (inside-split old c.split.new.chunks.items i d c.requires.inside.chunk c.requires.filled full c.in_ok-split.ensures.ok c.args.spot.at (c.requires.inside.at d))
 
@@ -36,7 +36,7 @@ returns-clause-room g c =
     let old = c.args.chunks.now.items in
     let i = c.args.spot.chunk in
     let d = c.index.result.now in
-    let full : 64 ≤ length (items_in (get_or old i d)) = omega (arith, c.len.ensures, c.if-len-lt-LIMIT.false, ap (λ x. length (items_in x)) c.index.ensures) in
+    let full : 32 ≤ length (items_in (get_or old i d)) = omega (arith, c.len.ensures, c.if-len-lt-LIMIT.false, ap (λ x. length (items_in x)) c.index.ensures) in
     subst (λ s. HasRoom c.split.new.chunks.items s.chunk) (sym c.halved.ensures)
     (room-split old c.split.new.chunks.items i d c.requires.inside.chunk c.requires.filled full c.in_ok-split.ensures.ok c.args.spot.at)
 
@@ -45,7 +45,7 @@ returns-clause-place g c =
     let old = c.args.chunks.now.items in
     let i = c.args.spot.chunk in
     let d = c.index.result.now in
-    let full : 64 ≤ length (items_in (get_or old i d)) = omega (arith, c.len.ensures, c.if-len-lt-LIMIT.false, ap (λ x. length (items_in x)) c.index.ensures) in
+    let full : 32 ≤ length (items_in (get_or old i d)) = omega (arith, c.len.ensures, c.if-len-lt-LIMIT.false, ap (λ x. length (items_in x)) c.index.ensures) in
     ap (λ s. place_of c.split.new.chunks.items s) c.halved.ensures
     ∙ place-split old c.split.new.chunks.items i d c.requires.inside.chunk c.requires.filled full c.in_ok-split.ensures.ok c.args.spot.at
 
@@ -58,7 +58,7 @@ overflow_add-index g c =
     let old = c.args.chunks.now.items in
     let i = c.args.spot.chunk in
     let d = c.index.result.now in
-    let full : 64 ≤ length (items_in (get_or old i d)) = omega (arith, c.len.ensures, c.if-len-lt-LIMIT.false, ap (λ x. length (items_in x)) c.index.ensures) in
+    let full : 32 ≤ length (items_in (get_or old i d)) = omega (arith, c.len.ensures, c.if-len-lt-LIMIT.false, ap (λ x. length (items_in x)) c.index.ensures) in
     let first = c.index-2.result.now in
     omega (
       arith,
@@ -79,7 +79,7 @@ returns-clause-numbers g c =
     let old = c.args.chunks.now.items in
     let i = c.args.spot.chunk in
     let d = c.index.result.now in
-    let full : 64 ≤ length (items_in (get_or old i d)) = omega (arith, c.len.ensures, c.if-len-lt-LIMIT.false, ap (λ x. length (items_in x)) c.index.ensures) in
+    let full : 32 ≤ length (items_in (get_or old i d)) = omega (arith, c.len.ensures, c.if-len-lt-LIMIT.false, ap (λ x. length (items_in x)) c.index.ensures) in
     let first = c.index-2.result.now in
     let fs = c.try_reserve.new.self.items in
     let fs_is : fs ≡ starts 0 old = c.try_reserve.ensures.items ∙ c.requires.numbers in

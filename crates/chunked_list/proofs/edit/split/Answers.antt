@@ -23,6 +23,6 @@ returns-clause-ok g c =
       new_is = c.insert.ensures.items
           ∙ (ap (λ b. cond b (insert (set c.try_reserve.new.self.items i low) (i + 1) high) (set c.try_reserve.new.self.items i low)) went
           ∙ (ap (λ l. insert (set l i low) (i + 1) high) c.try_reserve.ensures.items ∙ split_is cs i low high c.requires.there));
-      low_is = λ d. c.in_ok-high.ensures.items ∙ ap (λ x. take 32 (items_in x)) (is d);
-      high_is = λ d. c.in_ok-high.ensures.tail ∙ ap (λ x. drop 32 (items_in x)) (is d);
+      low_is = λ d. c.in_ok-high.ensures.items ∙ ap (λ x. take 16 (items_in x)) (is d);
+      high_is = λ d. c.in_ok-high.ensures.tail ∙ ap (λ x. drop 16 (items_in x)) (is d);
     }
