@@ -85,7 +85,7 @@ returns-clause-numbers g c =
     let fs_is : fs ≡ starts 0 old = c.try_reserve.ensures.items ∙ c.requires.numbers in
     let went : is_ok c.insert.result ≡ true = c.insert.ensures.succeeds (omega (arith, c.in_ok-try_reserve.ensures.ok)) in
     c.insert.ensures.items
-    ∙ (ap (λ b. cond b (insert fs (i + 1) (first + 32)) fs) went
-    ∙ (ap (λ l. insert l (i + 1) (first + 32)) fs_is
+    ∙ (ap (λ b. cond b (insert fs (i + 1) (first + 16)) fs) went
+    ∙ (ap (λ l. insert l (i + 1) (first + 16)) fs_is
     ∙ sym (starts-split old c.split.new.chunks.items i d c.requires.inside.chunk c.requires.filled full c.in_ok-split.ensures.ok first first
     (c.index-2.ensures ∙ ap (λ l. get_or l i first) fs_is))))
