@@ -33,14 +33,18 @@ impl Addr {
     pub fn is_same(&self, other: &Addr) -> bool
         ensures { result ≡ same_address self.now other.now }
     {
-        self == other
+        // what the derived comparisons say too, in more instructions: searches ask these at every step
+        match (self.ip, other.ip) {
+            (Ip::V4(ip), Ip::V4(than)) => ip == than && self.port == other.port,
+            (Ip::V6(ip), Ip::V6(than)) => ip == than && self.port == other.port,
+            _ => false,
+        }
     }
 
     /// Every IPv4 address comes before every IPv6 address. Within a family it goes by `ip` and then `port`.
     pub fn is_before(&self, other: &Addr) -> bool
         ensures { result ≡ address_below self.now other.now }
     {
-        // what the derived order says too, in more instructions: searches ask this at every step
         match (self.ip, other.ip) {
             (Ip::V4(ip), Ip::V4(than)) => ip < than || (ip == than && self.port < other.port),
             (Ip::V4(_), Ip::V6(_)) => true,

@@ -80,14 +80,14 @@ impl PeerBook {
     {
         self.kept
             .peers
-            .run_from(place_of_peer(&self.kept.peers, addr))
+            .run_from(place_of_peer(&self.kept.peers, &addr))
     }
 
     /// The peer with an address.
     pub fn get(&self, addr: Addr) -> Option<Peer>
         ensures { result ≡ peer_at addr self.now }
     {
-        peer_with(&self.kept.peers, addr)
+        peer_with(&self.kept.peers, &addr)
     }
 
     /// How many ordinary peers are known.
@@ -188,7 +188,7 @@ impl PeerBook {
         requires { IsSomeAnd (peer_at addr self.old) (λ peer. peer.temp ≡ Temp.Cold) }
         ensures { self.new ≡ without_peer addr self.old }
     {
-        let (place, peer) = place_and_peer(&self.kept.peers, addr);
+        let (place, peer) = place_and_peer(&self.kept.peers, &addr);
         self.kept.take_out(place, peer);
     }
 
@@ -209,7 +209,7 @@ impl PeerBook {
         requires { IsSome (peer_at addr self.old) }
         ensures { IfSome (peer_at addr self.old) (λ peer. self.new ≡ with_peer (record peer { temp = temp }) self.old) }
     {
-        let (place, peer) = place_and_peer(&self.kept.peers, addr);
+        let (place, peer) = place_and_peer(&self.kept.peers, &addr);
         self.kept.replace(place, peer, Peer { temp, ..peer });
     }
 
@@ -218,7 +218,7 @@ impl PeerBook {
         requires { IsSome (peer_at addr self.old) }
         ensures { IfSome (peer_at addr self.old) (λ peer. self.new ≡ with_peer (record peer { temp = Temp.Warm; failures = 0 }) self.old) }
     {
-        let (place, peer) = place_and_peer(&self.kept.peers, addr);
+        let (place, peer) = place_and_peer(&self.kept.peers, &addr);
         self.kept.replace(
             place,
             peer,
@@ -237,7 +237,7 @@ impl PeerBook {
         requires interval { base ≤ 86_400_000 }
         ensures { IfSome (peer_at addr self.old) (λ peer. self.new ≡ with_peer (failed_peer now base peer) self.old) }
     {
-        let (place, peer) = place_and_peer(&self.kept.peers, addr);
+        let (place, peer) = place_and_peer(&self.kept.peers, &addr);
         self.kept.replace(place, peer, failed(peer, now, base));
     }
 
@@ -246,7 +246,7 @@ impl PeerBook {
         requires { IsSome (peer_at addr self.old) }
         ensures { IfSome (peer_at addr self.old) (λ peer. self.new ≡ with_peer (record peer { share_next = next }) self.old) }
     {
-        let (place, peer) = place_and_peer(&self.kept.peers, addr);
+        let (place, peer) = place_and_peer(&self.kept.peers, &addr);
         self.kept.amend(
             place,
             peer,
@@ -262,7 +262,7 @@ impl PeerBook {
         requires { IsSome (peer_at addr self.old) }
         ensures { IfSome (peer_at addr self.old) (λ peer. self.new ≡ with_peer (record peer { big = false }) self.old) }
     {
-        let (place, peer) = place_and_peer(&self.kept.peers, addr);
+        let (place, peer) = place_and_peer(&self.kept.peers, &addr);
         self.kept.reclass(place, peer, Peer { big: false, ..peer });
     }
 

@@ -54,7 +54,7 @@ impl Kept {
         ensures unchanged { OnErr result (self.new.peers ≡ self.old.peers) }
     {
         self.rows.reserve(self.peers.len() + 1)?;
-        let place = place_of_peer(&self.peers, peer.addr);
+        let place = place_of_peer(&self.peers, &peer.addr);
         self.peers.insert(place, peer)?;
         self.rows.insert(peer.temp, peer.addr);
         self.tally.enter(&peer);
@@ -107,7 +107,7 @@ impl Kept {
         match self.put_each(big, others) {
             Ok(()) => Ok(()),
             Err(refusal) => {
-                let (place, peer) = place_and_peer(&self.peers, *first);
+                let (place, peer) = place_and_peer(&self.peers, first);
                 self.take_out(place, peer);
                 Err(refusal)
             }

@@ -40,7 +40,7 @@ fn has(addrs: &[Addr], addr: Addr) -> bool
     requires { IsRising (λ a. a) addrs.now }
     ensures { result ≡ has_address addr addrs.now }
 {
-    is_at(addrs, place_of(addrs, addr), addr)
+    is_at(addrs, place_of(addrs, &addr), addr)
 }
 
 // Whether an address stands at a place.

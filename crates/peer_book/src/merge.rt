@@ -36,7 +36,7 @@ pub fn merged(
     let mut all = Vec::with_capacity(alloc, peers.len() + addrs.len())?;
     let mut rest = peers;
     for addr in addrs {
-        let (below, above) = rest.split_at(place_among(rest, *addr));
+        let (below, above) = rest.split_at(place_among(rest, addr));
         all.extend_from_slice(below)?;
         all.push(fresh(*addr, big))?;
         rest = above;

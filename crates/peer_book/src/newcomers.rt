@@ -72,7 +72,7 @@ fn take_in(
     ensures given { OnOk result (given.new ≡ (if is_some (peer_at addr peers.now) || has_address addr sorted.old.keys then given.old else given.old ++ addr ∷ [])) }
     ensures sorted { OnOk result (sorted.new.keys ≡ (if is_some (peer_at addr peers.now) || has_address addr sorted.old.keys then sorted.old.keys else with_address addr sorted.old.keys)) }
 {
-    if peer_with(peers, addr).is_some() || !note(sorted, addr)? {
+    if peer_with(peers, &addr).is_some() || !note(sorted, addr)? {
         return Ok(());
     }
     given.push(addr)?;

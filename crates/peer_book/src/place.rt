@@ -8,51 +8,51 @@ use chunked_list::ChunkedList;
 use net_base::{Addr, Peer};
 
 // How many addresses of a rising list are below one.
-pub fn place_of(addrs: &[Addr], addr: Addr) -> usize
+pub fn place_of(addrs: &[Addr], addr: &Addr) -> usize
     requires { IsRising (λ a. a) addrs.now }
-    ensures { result ≡ prefix_len (λ a. address_below a addr) addrs.now }
+    ensures { result ≡ prefix_len (λ a. address_below a addr.now) addrs.now }
 {
-    addrs.partition_point(|a| a.is_before(&addr))
+    addrs.partition_point(|a| a.is_before(addr))
 }
 
 // The same of a list in chunks.
-pub fn place_in(addrs: &ChunkedList<Addr>, addr: Addr) -> usize
+pub fn place_in(addrs: &ChunkedList<Addr>, addr: &Addr) -> usize
     requires { IsRising (λ a. a) addrs.now }
-    ensures { result ≡ prefix_len (λ a. address_below a addr) addrs.now }
+    ensures { result ≡ prefix_len (λ a. address_below a addr.now) addrs.now }
 {
-    addrs.partition_point(|a| a.is_before(&addr))
+    addrs.partition_point(|a| a.is_before(addr))
 }
 
 // How many peers of a slice have an address below one.
-pub fn place_among(peers: &[Peer], addr: Addr) -> usize
+pub fn place_among(peers: &[Peer], addr: &Addr) -> usize
     requires { IsRising (λ p. p.addr) peers.now }
-    ensures { result ≡ prefix_len (λ p. address_below p.addr addr) peers.now }
+    ensures { result ≡ prefix_len (λ p. address_below p.addr addr.now) peers.now }
 {
-    peers.partition_point(|p| p.addr.is_before(&addr))
+    peers.partition_point(|p| p.addr.is_before(addr))
 }
 
 // How many peers have an address below one.
-pub fn place_of_peer(peers: &ChunkedList<Peer>, addr: Addr) -> usize
+pub fn place_of_peer(peers: &ChunkedList<Peer>, addr: &Addr) -> usize
     requires { IsRising (λ p. p.addr) peers.now }
-    ensures { result ≡ prefix_len (λ p. address_below p.addr addr) peers.now }
+    ensures { result ≡ prefix_len (λ p. address_below p.addr addr.now) peers.now }
 {
-    peers.partition_point(|p| p.addr.is_before(&addr))
+    peers.partition_point(|p| p.addr.is_before(addr))
 }
 
 // The peer with an address.
-pub fn peer_with(peers: &ChunkedList<Peer>, addr: Addr) -> Option<Peer>
+pub fn peer_with(peers: &ChunkedList<Peer>, addr: &Addr) -> Option<Peer>
     requires { IsRising (λ p. p.addr) peers.now }
-    ensures { result ≡ peer_at addr peers.now }
+    ensures { result ≡ peer_at addr.now peers.now }
 {
     peer_there(peers, place_of_peer(peers, addr), addr)
 }
 
 // The place of an address that is there, and its peer.
-pub fn place_and_peer(peers: &ChunkedList<Peer>, addr: Addr) -> (usize, Peer)
+pub fn place_and_peer(peers: &ChunkedList<Peer>, addr: &Addr) -> (usize, Peer)
     requires rising { IsRising (λ p. p.addr) peers.now }
-    requires there { IsSome (peer_at addr peers.now) }
-    ensures peer { peer_at addr peers.now ≡ Some result.1 }
-    ensures here { result.1.addr ≡ addr }
+    requires there { IsSome (peer_at addr.now peers.now) }
+    ensures peer { peer_at addr.now peers.now ≡ Some result.1 }
+    ensures here { result.1.addr ≡ addr.now }
     ensures stands { Stands result.0 result.1 peers.now }
 {
     let place = place_of_peer(peers, addr);
@@ -61,9 +61,9 @@ pub fn place_and_peer(peers: &ChunkedList<Peer>, addr: Addr) -> (usize, Peer)
 }
 
 // The peer at a place, where it has an address.
-fn peer_there(peers: &ChunkedList<Peer>, place: usize, addr: Addr) -> Option<Peer>
-    ensures { result ≡ found_at (λ p. p.addr) addr (slice_get peers.now place) }
+fn peer_there(peers: &ChunkedList<Peer>, place: usize, addr: &Addr) -> Option<Peer>
+    ensures { result ≡ found_at (λ p. p.addr) addr.now (slice_get peers.now place) }
 {
-    let peer = peers.get(place).copied()?;
-    (peer.addr == addr).then_some(peer)
+    let peer = peers.get(place)?;
+    peer.addr.is_same(addr).then_some(*peer)
 }

@@ -111,11 +111,11 @@ impl Row {
         requires room { length (addresses_in self.now) ≤ vec_capacity self.now.rest }
         ensures { result ≡ prefix_len (λ a. address_below a addr) (addresses_in self.now) }
     {
-        let place = place_in(&self.chunks, addr);
+        let place = place_in(&self.chunks, &addr);
         if place < self.chunks.len() {
             return place;
         }
-        place + place_of(&self.rest, addr)
+        place + place_of(&self.rest, &addr)
     }
 
     fn put(&mut self, place: usize, addr: Addr)

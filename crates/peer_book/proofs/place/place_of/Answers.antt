@@ -5,7 +5,7 @@ use Rattle.peer_book.proofs.place.place_of.Goals as goal
 
 pub returns : goal.returns
 returns c =
-    let p = is_under (λ a. a) c.args.addr in
+    let p = is_under (λ a. a) c.args.addr.now in
     place_is p c.args.addrs.now c.partition_point.result c.partition_point.ensures.bound
     (IsPartitionPoint-from_clause p c.args.addrs.now c.partition_point.result c.partition_point.ensures.partitioned
-    (partitioned (λ a. a) c.args.addr c.args.addrs.now c.requires) (λ a r f k. search rules))
+    (partitioned (λ a. a) c.args.addr.now c.args.addrs.now c.requires) (λ a r f k. search rules))

@@ -5,7 +5,7 @@ use Rattle.peer_book.proofs.place.place_of_peer.Goals as goal
 
 pub returns : goal.returns
 returns c =
-    let p = is_under (λ p. p.addr) c.args.addr in
+    let p = is_under (λ p. p.addr) c.args.addr.now in
     place_is p c.args.peers.now c.partition_point.result c.partition_point.ensures.bound
     (IsPartitionPoint-from_clause p c.args.peers.now c.partition_point.result c.partition_point.ensures.partitioned
-    (partitioned (λ p. p.addr) c.args.addr c.args.peers.now c.requires) (λ a r f k. search rules))
+    (partitioned (λ p. p.addr) c.args.addr.now c.args.peers.now c.requires) (λ a r f k. search rules))
