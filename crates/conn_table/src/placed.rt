@@ -60,7 +60,7 @@ impl PlacedList {
         ensures ok { OnOk result (self.new ≡ put_in placed self.old) }
         ensures err { OnErr result (self.new ≡ self.old) }
     {
-        let place = place_of(&self.items, &placed);
+        let place = place_of(&self.items, placed);
         self.items.insert(place, placed)
     }
 
@@ -70,7 +70,7 @@ impl PlacedList {
         requires there { IsTrue (stands placed self.old) }
         ensures { self.new ≡ taken_out placed self.old }
     {
-        let place = place_of(&self.items, &placed);
+        let place = place_of(&self.items, placed);
         self.items.remove(place);
     }
 
@@ -79,25 +79,25 @@ impl PlacedList {
         requires { IsRising self.now }
         ensures { result ≡ last_at addr self.now }
     {
-        let end = end_of(&self.items, &addr);
-        placed_before(&self.items, end, &addr)
+        let end = end_of(&self.items, addr);
+        placed_before(&self.items, end, addr)
     }
 }
 
 // How many of a rising list are below one.
-fn place_of(items: &ChunkedList<Placed>, placed: &Placed) -> usize
+fn place_of(items: &ChunkedList<Placed>, placed: Placed) -> usize
     requires { IsRising items.now }
-    ensures { result ≡ prefix_len (λ p. placed_below p placed.now) items.now }
+    ensures { result ≡ prefix_len (λ p. placed_below p placed) items.now }
 {
-    items.partition_point(|p| is_below(p, placed))
+    items.partition_point(|p| is_below(p, &placed))
 }
 
 // How many of a rising list have an address up to one.
-fn end_of(items: &ChunkedList<Placed>, addr: &Addr) -> usize
+fn end_of(items: &ChunkedList<Placed>, addr: Addr) -> usize
     requires { IsRising items.now }
-    ensures { result ≡ prefix_len (up_to addr.now) items.now }
+    ensures { result ≡ prefix_len (up_to addr) items.now }
 {
-    items.partition_point(|p| p.addr.is_up_to(addr))
+    items.partition_point(|p| p.addr.is_up_to(&addr))
 }
 
 // Whether one comes before another.
@@ -108,9 +108,9 @@ fn is_below(placed: &Placed, than: &Placed) -> bool
 }
 
 // The one before a place, where it has an address.
-fn placed_before(items: &ChunkedList<Placed>, end: usize, addr: &Addr) -> Option<Placed>
-    ensures { result ≡ found_at addr.now (before end items.now) }
+fn placed_before(items: &ChunkedList<Placed>, end: usize, addr: Addr) -> Option<Placed>
+    ensures { result ≡ found_at addr (before end items.now) }
 {
-    let placed = items.get(end.checked_sub(1)?)?;
-    placed.addr.is_same(addr).then_some(*placed)
+    let placed = items.get(end.checked_sub(1)?).copied()?;
+    (placed.addr == addr).then_some(placed)
 }

@@ -56,7 +56,7 @@ impl LinkRow {
         ensures err { OnErr result (self.new ≡ self.old) }
         ensures ordered { AreInOrder self.old }
     {
-        let row = place_in(&self.rows, &place_of(&link));
+        let row = place_in(&self.rows, place_of(&link));
         self.rows.insert(row, link)
     }
 
@@ -66,7 +66,7 @@ impl LinkRow {
         ensures put { self.new ≡ with_link link self.old }
         ensures ordered { AreInOrder self.old }
     {
-        let row = place_in(&self.rows, &place_of(&link));
+        let row = place_in(&self.rows, place_of(&link));
         self.rows.replace(row, link);
     }
 
@@ -75,7 +75,7 @@ impl LinkRow {
         requires { stands_at placed self.old ≡ true }
         ensures { self.new ≡ without_link placed self.old }
     {
-        let row = place_in(&self.rows, &placed);
+        let row = place_in(&self.rows, placed);
         self.rows.remove(row);
     }
 
@@ -83,8 +83,8 @@ impl LinkRow {
     pub fn drop_at(&mut self, placed: Placed)
         ensures { self.new ≡ without_link placed self.old }
     {
-        let row = place_in(&self.rows, &placed);
-        if !is_at(&self.rows, row, &placed) {
+        let row = place_in(&self.rows, placed);
+        if !is_at(&self.rows, row, placed) {
             return;
         }
         self.rows.remove(row);
@@ -92,12 +92,12 @@ impl LinkRow {
 }
 
 // How many links have an address and id below one.
-fn place_in(rows: &ChunkedList<Link>, placed: &Placed) -> usize
+fn place_in(rows: &ChunkedList<Link>, placed: Placed) -> usize
     requires { AreInOrder rows.now }
-    ensures value { result ≡ prefix_len (λ l. placed_below (place_of l) placed.now) rows.now }
+    ensures value { result ≡ prefix_len (λ l. placed_below (place_of l) placed) rows.now }
     ensures bound { result ≤ length rows.now }
 {
-    rows.partition_point(|link| is_below(link, placed))
+    rows.partition_point(|link| is_below(link, &placed))
 }
 
 // Whether the address and id of a link are below some.
@@ -108,11 +108,11 @@ fn is_below(link: &Link, placed: &Placed) -> bool
 }
 
 // Whether the link in a row is that of a connection.
-fn is_at(rows: &ChunkedList<Link>, row: usize, placed: &Placed) -> bool
-    ensures { result ≡ is_some (link_at placed.now (slice_get rows.now row)) }
+fn is_at(rows: &ChunkedList<Link>, row: usize, placed: Placed) -> bool
+    ensures { result ≡ is_some (link_at placed (slice_get rows.now row)) }
 {
     match rows.get(row) {
-        Some(link) => link.addr.is_same(&placed.addr) && link.cid == placed.cid,
+        Some(link) => link.addr == placed.addr && link.cid == placed.cid,
         None => false,
     }
 }

@@ -7,12 +7,14 @@ ghost use Rattle.peer_book.specs.Order.{IsRising, found_at};
 use chunked_list::ChunkedList;
 use net_base::{Addr, Peer};
 
-// How many addresses of a rising list are below one.
+// How many addresses of a rising list are below one. Here and below it is copied before the search: what is compared at each
+// step then stands in registers.
 pub fn place_of(addrs: &[Addr], addr: &Addr) -> usize
     requires { IsRising (λ a. a) addrs.now }
     ensures { result ≡ prefix_len (λ a. address_below a addr.now) addrs.now }
 {
-    addrs.partition_point(|a| a.is_before(addr))
+    let than = *addr;
+    addrs.partition_point(|a| a.is_before(&than))
 }
 
 // The same of a list in chunks.
@@ -20,7 +22,8 @@ pub fn place_in(addrs: &ChunkedList<Addr>, addr: &Addr) -> usize
     requires { IsRising (λ a. a) addrs.now }
     ensures { result ≡ prefix_len (λ a. address_below a addr.now) addrs.now }
 {
-    addrs.partition_point(|a| a.is_before(addr))
+    let than = *addr;
+    addrs.partition_point(|a| a.is_before(&than))
 }
 
 // How many peers of a slice have an address below one.
@@ -28,7 +31,8 @@ pub fn place_among(peers: &[Peer], addr: &Addr) -> usize
     requires { IsRising (λ p. p.addr) peers.now }
     ensures { result ≡ prefix_len (λ p. address_below p.addr addr.now) peers.now }
 {
-    peers.partition_point(|p| p.addr.is_before(addr))
+    let than = *addr;
+    peers.partition_point(|p| p.addr.is_before(&than))
 }
 
 // How many peers have an address below one.
@@ -36,7 +40,8 @@ pub fn place_of_peer(peers: &ChunkedList<Peer>, addr: &Addr) -> usize
     requires { IsRising (λ p. p.addr) peers.now }
     ensures { result ≡ prefix_len (λ p. address_below p.addr addr.now) peers.now }
 {
-    peers.partition_point(|p| p.addr.is_before(addr))
+    let than = *addr;
+    peers.partition_point(|p| p.addr.is_before(&than))
 }
 
 // The peer with an address.

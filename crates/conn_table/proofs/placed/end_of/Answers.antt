@@ -7,6 +7,6 @@ use Rattle.conn_table.proofs.placed.end_of.Goals as goal
 
 pub returns : goal.returns
 returns c =
-    place_is (up_to c.args.addr.now) c.args.items.now c.partition_point.result c.partition_point.ensures.bound
-    (IsPartitionPoint-from_clause (up_to c.args.addr.now) c.args.items.now c.partition_point.result c.partition_point.ensures.partitioned
-    (parted (up_to c.args.addr.now) (up_to-earlier c.args.addr.now) c.args.items.now c.requires) (λ a r f k. search rules))
+    place_is (up_to c.args.addr) c.args.items.now c.partition_point.result c.partition_point.ensures.bound
+    (IsPartitionPoint-from_clause (up_to c.args.addr) c.args.items.now c.partition_point.result c.partition_point.ensures.partitioned
+    (parted (up_to c.args.addr) (up_to-earlier c.args.addr) c.args.items.now c.requires) (λ a r f k. search rules))

@@ -8,7 +8,7 @@ use Rattle.conn_table.proofs.placed.place_of.Goals as goal
 
 pub returns : goal.returns
 returns c =
-    let under : Placed → Bool = λ p. placed_below p c.args.placed.now in
+    let under : Placed → Bool = λ p. placed_below p c.args.placed in
     place_is under c.args.items.now c.partition_point.result c.partition_point.ensures.bound
     (IsPartitionPoint-from_clause under c.args.items.now c.partition_point.result c.partition_point.ensures.partitioned
-    (parted under (λ p q h k. placed_transitive p q c.args.placed.now h k) c.args.items.now c.requires) (λ a r f k. search rules))
+    (parted under (λ p q h k. placed_transitive p q c.args.placed h k) c.args.items.now c.requires) (λ a r f k. search rules))

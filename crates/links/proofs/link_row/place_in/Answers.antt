@@ -8,7 +8,7 @@ use Rattle.links.proofs.link_row.place_in.Goals as goal
 
 pub returns-clause-value : goal.returns-clause-value
 returns-clause-value c =
-    let p = is_under placed_below same_placed placed_order place_of c.args.placed.now in
+    let p = is_under placed_below same_placed placed_order place_of c.args.placed in
     place_is p c.args.rows.now c.partition_point.result c.partition_point.ensures.bound
     (IsPartitionPoint-from_clause p c.args.rows.now c.partition_point.result c.partition_point.ensures.partitioned
-    (partitioned placed_below same_placed placed_order place_of c.args.placed.now c.args.rows.now c.requires) (λ a r f k. search rules))
+    (partitioned placed_below same_placed placed_order place_of c.args.placed c.args.rows.now c.requires) (λ a r f k. search rules))
