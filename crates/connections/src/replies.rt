@@ -4,6 +4,7 @@ ghost use Rattle.machine.specs.Replies.{with_reply, without_reply, is_owed_on};
 ghost use Rattle.connections.specs.Owed.{reply_of, owed_by};
 
 use crate::Reply;
+use net_base::protocol::{CHAIN_SYNC, KEEP_ALIVE, PEER_SHARING};
 use std::marker::Model;
 
 /// The replies that are owed on a connection, at most one on each protocol. Contracts see the list of them, in order
@@ -42,9 +43,9 @@ impl Replies {
         ensures { result ≡ option_map reply_of (find (λ o. o.protocol == protocol) self.now) }
     {
         match protocol {
-            2 => self.chain_sync,
-            8 => self.keep_alive,
-            10 => self.peer_sharing,
+            CHAIN_SYNC => self.chain_sync,
+            KEEP_ALIVE => self.keep_alive,
+            PEER_SHARING => self.peer_sharing,
             _ => None,
         }
     }
@@ -63,9 +64,9 @@ impl Replies {
             (record { protocol = protocol; until = reply.until; asked = reply.asked }) self.old }
     {
         match protocol {
-            2 => self.chain_sync = Some(reply),
-            8 => self.keep_alive = Some(reply),
-            10 => self.peer_sharing = Some(reply),
+            CHAIN_SYNC => self.chain_sync = Some(reply),
+            KEEP_ALIVE => self.keep_alive = Some(reply),
+            PEER_SHARING => self.peer_sharing = Some(reply),
             _ => unreachable!(),
         }
     }
@@ -75,9 +76,9 @@ impl Replies {
         ensures { self.new ≡ without_reply protocol self.old }
     {
         match protocol {
-            2 => self.chain_sync = None,
-            8 => self.keep_alive = None,
-            10 => self.peer_sharing = None,
+            CHAIN_SYNC => self.chain_sync = None,
+            KEEP_ALIVE => self.keep_alive = None,
+            PEER_SHARING => self.peer_sharing = None,
             _ => {}
         }
     }

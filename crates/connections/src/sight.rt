@@ -5,6 +5,7 @@ ghost use Rattle.net_base.specs.Shared.{nothing_undecoded};
 use crate::replies::Replies;
 use conn_state::facts::{is_acquirable, is_live, is_pending, is_sharing};
 use net_base::Facts;
+use net_base::protocol::{CHAIN_SYNC, KEEP_ALIVE, PEER_SHARING};
 
 /// What the rules see of a connection, but for its address and id, which stay.
 #[derive(Clone, Copy, PartialEq, Eq)]
@@ -28,8 +29,8 @@ pub fn sight_of(facts: &Facts, replies: &Replies) -> Sight
         pending: is_pending(facts),
         local: facts.local,
         sharing: is_sharing(facts),
-        owes2: replies.on(2).is_some(),
-        owes8: replies.on(8).is_some(),
-        owes10: replies.on(10).is_some(),
+        owes2: replies.on(CHAIN_SYNC).is_some(),
+        owes8: replies.on(KEEP_ALIVE).is_some(),
+        owes10: replies.on(PEER_SHARING).is_some(),
     }
 }

@@ -7,6 +7,7 @@ use crate::{Received, fault_of, fits_side, is_awaited};
 use hs_decide::{Role, decide};
 use hs_message::{Message, VersionInfo, read_message};
 use mux_segment::LentItem;
+use net_base::protocol::HANDSHAKE;
 use net_base::{FaultKind, OutOfMemory};
 use std::alloc::Global;
 
@@ -24,7 +25,7 @@ pub fn receive(
     // What was decided can be answered.
     ensures answerable { IfOk result CanBeAnswered }
 {
-    if item.id == 0 && is_awaited(role, item.side) {
+    if item.id == HANDSHAKE && is_awaited(role, item.side) {
         receive_body(alloc, role, own, item)
     } else {
         Ok(Received::Fault(FaultKind::Protocol))

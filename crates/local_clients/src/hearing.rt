@@ -16,7 +16,7 @@ use crate::{ClientAction, ClientActions, ClientCause};
 use cbor_items::first_item;
 use hs_message::{Message, read_client_message};
 use hs_receive::{fault_of, kind_of};
-use mux_segment::{Header, Waiting, frame, next_item};
+use mux_segment::{Header, RESPONDER, Waiting, frame, next_item};
 use net_base::protocol::HANDSHAKE;
 use net_base::{FaultKind, OutOfMemory};
 use std::alloc::Global;
@@ -173,7 +173,7 @@ fn send(
     ensures { OnOk result (actions.new ≡ actions.old ++ sends context.now decision ∷ []) }
 {
     let message = answer(alloc, context.magic, decision)?;
-    let bytes = frame(alloc, 1, HANDSHAKE, context.moment, message.as_slice())?;
+    let bytes = frame(alloc, RESPONDER, HANDSHAKE, context.moment, message.as_slice())?;
     actions.push(ClientAction::Send(context.client, bytes))
 }
 

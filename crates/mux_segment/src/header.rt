@@ -1,12 +1,18 @@
 ghost use Rattle.std.specs.Prelude.{◌≡◌, ◌≤◌, ◌<◌, ◌^◌};
 ghost use Rattle.mux_segment.specs.Segment.{header_bytes, header_of, FitsHeader};
 
+/// The side of who began a protocol.
+pub const INITIATOR: u8 = 0;
+
+/// The side of who answers.
+pub const RESPONDER: u8 = 1;
+
 /// The header of a segment.
 #[derive(Clone, Copy, PartialEq, Eq)]
 pub struct Header {
     /// The low 32 bits of a clock in microseconds.
     pub time: u32,
-    /// 0 from the initiator, 1 from the responder.
+    /// `INITIATOR` or `RESPONDER`, whichever sent it.
     pub side: u8,
     /// The number of the protocol, below 32,768.
     pub id: u16,

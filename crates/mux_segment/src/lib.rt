@@ -24,7 +24,7 @@ pub use cutter::Cutter;
 pub use fault::CutFault;
 pub use fed::Fed;
 pub use framing::frame;
-pub use header::{Header, read_header, write_header};
+pub use header::{Header, INITIATOR, RESPONDER, read_header, write_header};
 pub use item::{Item, ItemList};
 pub use lent_item::LentItem;
 pub use packed::PackedItems;

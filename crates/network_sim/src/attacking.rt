@@ -5,10 +5,8 @@ ghost use Rattle.std.specs.Prelude.{◌<◌, ◌^◌};
 use crate::addresses::address_of;
 use crate::ground::Ground;
 use crate::link::Side;
-use crate::segments::{
-    ACCEPTANCE, ALIVE_WITH_FIVE, INITIATOR, NO_INTERSECTION, PROPOSAL, RESPONDER,
-};
-use mux_segment::{Header, frame, split_segment};
+use crate::segments::{ACCEPTANCE, ALIVE_WITH_FIVE, NO_INTERSECTION, PROPOSAL};
+use mux_segment::{Header, INITIATOR, RESPONDER, frame, split_segment};
 use net_base::protocol::{CHAIN_SYNC, HANDSHAKE, KEEP_ALIVE, PEER_SHARING};
 use net_base::{AddrList, Octets, OutOfMemory};
 use network_scenario::Role;

@@ -76,26 +76,12 @@ impl Engine {
         ensures record { IfOk result (λ r. IsLawfulRecord r.0.machine) }
         ensures event { IfOk result (λ r. IsLawfulEvent self.machine event) }
     {
-        self.step_on(&event)
-    }
-
-    /// The same of an event that is lent.
-    pub fn step_on(self, event: &Event) -> Result<(Engine, ActionList), OutOfMemory>
-        requires few { self.events < 1000000 }
-        requires within { IsWithinLimits event.now }
-        ensures machine { IfOk result (λ r. r.0.machine ≡ (step self.machine event.now).machine) }
-        ensures actions { IfOk result (λ r. r.1 ≡ (step self.machine event.now).actions) }
-        ensures taken { IfOk result (λ r. r.0.events ≡ self.events + 1) }
-        ensures numbers { IfOk result (λ r. GivesFew self.machine r.0.machine) }
-        ensures record { IfOk result (λ r. IsLawfulRecord r.0.machine) }
-        ensures event { IfOk result (λ r. IsLawfulEvent self.machine event.now) }
-    {
         let mut engine = self;
-        let actions = engine.step_in_place(event)?;
+        let actions = engine.step_in_place(&event)?;
         Ok((engine, actions))
     }
 
-    /// The same where the engine is lent too. On a refusal all that it knew is gone.
+    /// The same where engine and event are lent. On a refusal all that it knew is gone.
     pub fn step_in_place(&mut self, event: &Event) -> Result<ActionList, OutOfMemory>
         requires few { self.old.events < 1000000 }
         requires within { IsWithinLimits event.now }

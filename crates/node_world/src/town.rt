@@ -16,7 +16,7 @@ mod start;
 use crate::waiting::Waiting;
 use beginning::{first_locals, first_targets};
 use draws::draw;
-use mux_segment::Header;
+use mux_segment::{Header, INITIATOR, RESPONDER};
 use net_base::protocol::{CHAIN_SYNC, HANDSHAKE, KEEP_ALIVE, PEER_SHARING};
 use net_base::{Action, Cid, Event, Job, NUMBER_MOST, OutOfMemory, RootAnswer};
 use peers::{root_peers, some_peer};
@@ -24,8 +24,7 @@ use question::{Question, question_of};
 use rand_core::SeedableRng;
 use rand_pcg::Pcg64;
 use segments::{
-    ACCEPTANCE, ALIVE_WITH_FIVE, INITIATOR, NO_INTERSECTION, PROPOSAL, RESPONDER, heard,
-    reply_alive, spoken,
+    ACCEPTANCE, ALIVE_WITH_FIVE, NO_INTERSECTION, PROPOSAL, heard, reply_alive, spoken,
 };
 use start::Start;
 use std::alloc::Global;

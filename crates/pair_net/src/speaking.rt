@@ -11,15 +11,10 @@ use crate::{End, EndPhase, NoteList, PairNote};
 use hs_decide::{Role, Verdict, answer, proposal};
 use hs_message::VersionInfo;
 use hs_receive::Received;
-use mux_segment::frame;
+use mux_segment::{INITIATOR, RESPONDER, frame};
 use net_base::protocol::HANDSHAKE;
 use net_base::{Octets, OutOfMemory};
 use std::alloc::Global;
-
-// The sides of a segment.
-const INITIATOR: u8 = 0;
-
-const RESPONDER: u8 = 1;
 
 /// An end dials the other one: it waits for an answer, and its proposal is on the way.
 pub(crate) fn dial(

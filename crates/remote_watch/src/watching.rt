@@ -9,7 +9,7 @@ ghost use Rattle.remote_watch.specs.declared.refusal.WatchRefusal.{WatchRefusal}
 use crate::{Reply, Seen, WatchRefusal};
 use net_base::{FaultKind, protocol};
 use std::alloc::Global;
-use warm_messages::{Alive, Share, item_number, read_alive, read_share};
+use warm_messages::{Alive, Share, item_number, message, read_alive, read_share};
 
 /// What an item of the initiator's side is, by the number of its mini-protocol, where the handshake is over. Peer sharing has
 /// its number only where both ends agreed on it. Memory is taken for peer sharing alone. The item is one that a cutter gave:
@@ -40,9 +40,9 @@ fn chain_sync(number: u64) -> Seen
     ensures { result ≡ chain_sync_seen number }
 {
     match number {
-        4 => Seen::goes_on(Reply::NoIntersect),
-        0 => Seen::goes_on(Reply::Await),
-        7 => Seen::done(),
+        message::FIND_INTERSECT => Seen::goes_on(Reply::NoIntersect),
+        message::REQUEST_NEXT => Seen::goes_on(Reply::Await),
+        message::CHAIN_SYNC_DONE => Seen::done(),
         _ => Seen::goes_on(Reply::Nothing),
     }
 }
@@ -51,8 +51,8 @@ fn block_fetch(number: u64) -> Seen
     ensures { result ≡ block_fetch_seen number }
 {
     match number {
-        0 => Seen::goes_on(Reply::NoBlocks),
-        1 => Seen::done(),
+        message::REQUEST_RANGE => Seen::goes_on(Reply::NoBlocks),
+        message::BLOCK_FETCH_DONE => Seen::done(),
         _ => Seen::goes_on(Reply::Nothing),
     }
 }
@@ -61,7 +61,7 @@ fn tx_submission(number: u64) -> Seen
     ensures { result ≡ tx_submission_seen number }
 {
     match number {
-        4 => Seen::done(),
+        message::TX_SUBMISSION_DONE => Seen::done(),
         _ => Seen::goes_on(Reply::Nothing),
     }
 }

@@ -10,4 +10,3 @@ mod turns;
 mod uses;
 
 pub(crate) use notices::tell_known;
-pub(crate) use sends::{INITIATOR, RESPONDER};

@@ -1,8 +1,7 @@
 ghost use Rattle.std.specs.Prelude.{◌≡◌, ◌&&◌, ◌==◌};
 ghost use Rattle.node_world.specs.Segments.{question_of, is_from, begins_asking, asks_intersection};
 
-use super::segments::INITIATOR;
-use mux_segment::Header;
+use mux_segment::{Header, INITIATOR};
 use net_base::protocol::{CHAIN_SYNC, HANDSHAKE, KEEP_ALIVE, PEER_SHARING};
 
 /// What the node asks a peer as initiator.

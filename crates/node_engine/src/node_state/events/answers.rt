@@ -13,7 +13,7 @@ use mux_segment::LentItem;
 use net_base::protocol::{CHAIN_SYNC, KEEP_ALIVE};
 use net_base::{ActionList, CloseCause, Facts, FaultKind, OutOfMemory, Temp};
 use std::alloc::Global;
-use warm_messages::{Alive, Share, item_number, read_alive, read_share};
+use warm_messages::{Alive, Share, item_number, message, read_alive, read_share};
 
 impl NodeState {
     /// The other side answers.
@@ -88,8 +88,10 @@ fn pays(alloc: Global, reply: Reply, item: &LentItem<'_>) -> Result<bool, OutOfM
         ≡ pays (record { protocol = item.now.id; until = reply.until; asked = reply.asked }) item.now.body.now) }
 {
     match item.id {
-        // an intersection was found, or none
-        CHAIN_SYNC => Ok(matches!(item_number(item.body), Some(5 | 6))),
+        CHAIN_SYNC => Ok(matches!(
+            item_number(item.body),
+            Some(message::INTERSECT_FOUND | message::INTERSECT_NOT_FOUND)
+        )),
         // the cookie that was sent
         KEEP_ALIVE => match read_alive(item.body) {
             Some(Alive::Reply(number)) => Ok(u64::from(number) == reply.asked),

@@ -9,12 +9,11 @@ ghost use Rattle.node_engine.specs.Greets.{CanJudge, CanFollow, greeted_as};
 ghost use Rattle.node_engine.specs.State.{Does, DoesTo, IsKnown};
 
 use crate::NodeState;
-use crate::node_state::moves::RESPONDER;
 use crate::own::own_info;
 use conn_table::Step;
 use hs_decide::{Role, Verdict, answer};
 use hs_receive::{Received, receive};
-use mux_segment::LentItem;
+use mux_segment::{LentItem, RESPONDER};
 use net_base::protocol::HANDSHAKE;
 use net_base::{ActionList, CloseCause, Facts, FaultKind, OutOfMemory, Provenance};
 

@@ -7,11 +7,10 @@ ghost use Rattle.mux_segment.specs.Lent.{lent};
 ghost use Rattle.node_engine.specs.State.{DoesTo, IsKnown};
 
 use crate::NodeState;
-use crate::node_state::moves::RESPONDER;
 use conn_state::facts::{is_sharing, serves_remote};
 use conn_state::responders::runs;
 use conn_table::Step;
-use mux_segment::LentItem;
+use mux_segment::{INITIATOR, LentItem, RESPONDER};
 use net_base::{ActionList, Addr, AddrList, Cid, CloseCause, Facts, FaultKind, OutOfMemory};
 use remote_watch::{Reply, Seen, reply_bytes, watch};
 
@@ -27,7 +26,7 @@ impl NodeState {
         requires negotiated { is_negotiated facts.now ≡ true }
         ensures { OnOk result (DoesTo facts.now.cid.0 (talks (lent item.now)) actions.old self.old self.new actions.new) }
     {
-        if item.side != 0 {
+        if item.side != INITIATOR {
             return self.take_answer(facts, item, actions);
         }
         match watch(self.alloc, item.id, is_sharing(facts), item.body) {

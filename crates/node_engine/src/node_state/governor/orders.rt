@@ -5,18 +5,12 @@ ghost use Rattle.machine.specs.Govern.{asks_peer, activates, deactivates, carrie
 ghost use Rattle.node_engine.specs.State.{Does, DoesTo, IsKnown};
 
 use crate::NodeState;
-use crate::node_state::moves::INITIATOR;
 use conn_table::Step;
 use govern_rules::Order;
-use net_base::protocol::PEER_SHARING;
+use mux_segment::INITIATOR;
+use net_base::protocol::{CHAIN_SYNC, PEER_SHARING};
 use net_base::{Action, ActionList, Facts, OutOfMemory, PeerNote, Temp};
-use warm_messages::write_request;
-
-/// [4, []]: where do our chains meet
-const FIND_INTERSECT: [u8; 3] = [0x82, 0x04, 0x80];
-
-/// [7]: chain-sync is done
-const CHAIN_SYNC_DONE: [u8; 2] = [0x81, 0x07];
+use warm_messages::{CHAIN_SYNC_DONE, FIND_INTERSECT, write_request};
 
 impl NodeState {
     /// Orders are carried out, one after the other.
@@ -97,8 +91,8 @@ impl NodeState {
         requires { IsKnown facts.now self.old }
         ensures { OnOk result (DoesTo facts.now.cid.0 activates actions.old self.old self.new actions.new) }
     {
-        self.send(facts.cid, INITIATOR, 2, &FIND_INTERSECT, actions)?;
-        self.owe(facts.cid, 2, 0);
+        self.send(facts.cid, INITIATOR, CHAIN_SYNC, &FIND_INTERSECT, actions)?;
+        self.owe(facts.cid, CHAIN_SYNC, 0);
         Ok(())
     }
 
@@ -107,7 +101,7 @@ impl NodeState {
         requires { IsKnown facts.now self.old }
         ensures { OnOk result (DoesTo facts.now.cid.0 deactivates actions.old self.old self.new actions.new) }
     {
-        self.send(facts.cid, INITIATOR, 2, &CHAIN_SYNC_DONE, actions)?;
+        self.send(facts.cid, INITIATOR, CHAIN_SYNC, &CHAIN_SYNC_DONE, actions)?;
         self.peer_becomes(Temp::Warm, facts.addr, actions)
     }
 }

@@ -8,10 +8,10 @@ ghost use Rattle.machine.specs.Machine.{facts_of};
 ghost use Rattle.node_engine.specs.State.{Does, DoesTo, IsKnown, sends_from};
 
 use crate::NodeState;
-use crate::node_state::moves::INITIATOR;
 use crate::own::own_info;
 use conn_table::Step;
 use hs_decide::proposal;
+use mux_segment::INITIATOR;
 use net_base::protocol::HANDSHAKE;
 use net_base::{Action, ActionList, Addr, Cid, Facts, OutOfMemory, StateName};
 

@@ -5,12 +5,6 @@ use crate::NodeState;
 use mux_segment::frame;
 use net_base::{Action, ActionList, Cid, OutOfMemory};
 
-/// The side of who began a protocol.
-pub(crate) const INITIATOR: u8 = 0;
-
-/// The side of who answers.
-pub(crate) const RESPONDER: u8 = 1;
-
 impl NodeState {
     /// A message on a protocol, from one of the two sides.
     pub(crate) fn send(

@@ -9,9 +9,9 @@ ghost use Rattle.node_engine.specs.State.{Does, DoesTo, IsKnown, is_used_from};
 ghost use Rattle.warm_messages.specs.Writing.{written_alive};
 
 use crate::NodeState;
-use crate::node_state::moves::INITIATOR;
 use conn_state::facts::is_sharing;
 use conn_table::Step;
+use mux_segment::INITIATOR;
 use net_base::protocol::{KEEP_ALIVE, PEER_SHARING};
 use net_base::{ActionList, Cid, Facts, OutOfMemory, Temp};
 use warm_messages::{Alive, SHARE_DONE, write_alive};
