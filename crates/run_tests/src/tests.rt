@@ -1,3 +1,4 @@
 mod commands;
 mod nodes;
+mod sinks;
 mod towns;

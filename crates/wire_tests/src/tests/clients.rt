@@ -295,7 +295,7 @@ const FAULTS: [[Step; 2]; 7] = [
 
 #[test]
 fn faults_close_a_client(rt: HostRuntime) {
-    for &steps in &FAULTS {
-        run(&rt, rt.alloc(), &steps);
+    for steps in &FAULTS {
+        run(&rt, rt.alloc(), steps);
     }
 }

@@ -131,11 +131,16 @@ const DECLINED: &[u8] = b"\x82\x02\x83\x02\x0e\x75network magic differs";
 
 const QUERY_REPLY: &[u8] = b"\x82\x03\xa2\x0d\x84\x18\x2a\xf4\x01\xf4\x0e\x84\x18\x2a\xf4\x01\xf4";
 
-// Whether a proposal and a query reply of both versions are written.
-fn writes_both(alloc: Global) -> Result<bool, OutOfMemory> {
+// Whether a proposal of both versions is written.
+fn writes_proposal(alloc: Global) -> Result<bool, OutOfMemory> {
     let proposal = Message::Propose(both(alloc)?);
+    Ok(writes(alloc, &proposal, PROPOSAL))
+}
+
+// Whether a query reply of both versions is written.
+fn writes_query_reply(alloc: Global) -> Result<bool, OutOfMemory> {
     let reply = Message::QueryReply(both(alloc)?);
-    Ok(writes(alloc, &proposal, PROPOSAL) && writes(alloc, &reply, QUERY_REPLY))
+    Ok(writes(alloc, &reply, QUERY_REPLY))
 }
 
 const REFUSALS: [(Why, &[u8]); 3] = [
@@ -149,7 +154,8 @@ const REFUSALS: [(Why, &[u8]); 3] = [
 
 #[test]
 fn the_vectors_are_written(rt: HostRuntime) {
-    assert!(rt; matches!(writes_both(rt.alloc()), Ok(true)));
+    assert!(rt; matches!(writes_proposal(rt.alloc()), Ok(true)));
+    assert!(rt; matches!(writes_query_reply(rt.alloc()), Ok(true)));
     let accept = Message::Accept(14, Info::Known(OWN));
     assert!(rt; writes(rt.alloc(), &accept, ACCEPT));
     for &(why, bytes) in &REFUSALS {

@@ -1,6 +1,7 @@
 //! A run of a command over streams in memory, and how it is to end.
 
 use super::USAGE;
+use crate::tests::sinks::sink;
 use command_run::run;
 use io_edge::{MemSink, MemSource};
 use net_base::{NumberList, Octets, RefusalKind};
@@ -76,15 +77,17 @@ struct Streams {
     err: MemSink,
 }
 
-fn make_streams(alloc: Global, given: Given<'_>) -> Result<Streams, Fail> {
+fn make_source(alloc: Global, given: Given<'_>) -> Result<MemSource, Fail> {
     let input = Octets::from_slice(alloc, given.input.as_bytes())?;
     let readings = NumberList::from_slice(alloc, given.readings)?;
-    let writings = NumberList::from_slice(alloc, given.writings)?;
-    Ok(Streams {
-        src: MemSource::new(input, given.piece.max(1), readings),
-        out: MemSink::new(alloc, given.room, writings)?,
-        err: MemSink::new(alloc, 16_384, NumberList::new(alloc))?,
-    })
+    Ok(MemSource::new(input, given.piece.max(1), readings))
+}
+
+fn make_streams(alloc: Global, given: Given<'_>) -> Result<Streams, Fail> {
+    let src = make_source(alloc, given)?;
+    let out = sink(alloc, given.room, given.writings)?;
+    let err = sink(alloc, 16_384, &[])?;
+    Ok(Streams { src, out, err })
 }
 
 fn strings(alloc: Global, words: &[&str]) -> Result<Vec<String>, Fail> {

@@ -1,6 +1,7 @@
 ghost use Rattle.std.specs.Prelude.{◌≡◌, false, is_some, IfOk};
 ghost use Rattle.net_base.specs.Limits.{IsWithinLimits};
 
+use crate::tests::sinks::sink;
 use io_edge::{FileList, MemShelf, MemSink, NamedFile};
 use net_base::{Action, Addr, Cid, Event, EventList, Ip, NumberList, Octets, PeerNote, StateName};
 use node_run::run_node;
@@ -8,6 +9,9 @@ use node_world::ScriptWorld;
 use std::alloc::Global;
 use std::test::Fail;
 use tool_status::Status;
+
+// How many bytes a sink has room for.
+pub(super) const ROOM: usize = 4096;
 
 // What is around a node: its files, the world, and where it writes.
 #[derive(Drop)]
@@ -105,17 +109,12 @@ pub(super) fn shelf(
     Ok(MemShelf::new(alloc, files, failing))
 }
 
-pub(super) fn failing_sink(alloc: Global, failing: &[u64]) -> Result<MemSink, Fail> {
-    let failing = NumberList::from_slice(alloc, failing)?;
-    Ok(MemSink::new(alloc, 4096, failing)?)
-}
-
 fn make_place(alloc: Global, given: Given<'_>) -> Result<Place, Fail>
     ensures { IfOk result (λ place. is_some place.world.opening ≡ false) }
 {
     let shelf = shelf(alloc, given.settings, given.topology, given.readings)?;
-    let out = failing_sink(alloc, given.writings)?;
-    let err = failing_sink(alloc, given.tellings)?;
+    let out = sink(alloc, ROOM, given.writings)?;
+    let err = sink(alloc, ROOM, given.tellings)?;
     let world = world(alloc, given.world)?;
     Ok(Place {
         shelf,
@@ -175,7 +174,21 @@ fn is_left(place: &Place, wanted: Wanted<'_>) -> bool {
 // Whether a node ends so.
 pub(super) fn ends(alloc: Global, given: Given<'_>, wanted: Wanted<'_>) -> Result<bool, Fail> {
     let words = strings(alloc, given.words)?;
+    ends_under(alloc, &words, given, wanted)
+}
+
+// The same under words of a command line.
+fn ends_under(
+    alloc: Global,
+    words: &[String],
+    given: Given<'_>,
+    wanted: Wanted<'_>,
+) -> Result<bool, Fail> {
     let mut place = make_place(alloc, given)?;
-    let status = run_in(alloc, &words, &mut place);
-    Ok(status == wanted.status && is_left(&place, wanted))
+    let status = run_in(alloc, words, &mut place);
+    Ok(is_end(status, &place, wanted))
+}
+
+fn is_end(status: Status, place: &Place, wanted: Wanted<'_>) -> bool {
+    status == wanted.status && is_left(place, wanted)
 }

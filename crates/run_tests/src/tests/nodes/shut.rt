@@ -1,7 +1,8 @@
 ghost use Rattle.std.specs.Prelude.{◌≡◌, [], Some, None, false, true, IfOk};
 
-use super::place::{failing_sink, shelf, strings};
+use super::place::{ROOM, shelf, strings};
 use super::{SETTINGS, TOPOLOGY};
+use crate::tests::sinks::sink;
 use io_edge::{Failed, MemShelf, MemSink, Sink};
 use net_base::{Action, AddrList};
 use node_run::run_node;
@@ -84,9 +85,9 @@ fn make_shut<'a>(alloc: Global, said: &'a Cell<usize>) -> Result<ShutPlace<'a>, 
     ensures { IfOk result (λ place. place.world.is_open ≡ false) }
 {
     let shelf = shelf(alloc, Some(SETTINGS), Some(TOPOLOGY), &[])?;
-    let out = failing_sink(alloc, &[])?;
+    let out = sink(alloc, ROOM, &[])?;
     let err = NotedSink {
-        sink: failing_sink(alloc, &[])?,
+        sink: sink(alloc, ROOM, &[])?,
         said,
     };
     Ok(ShutPlace {

@@ -61,16 +61,22 @@ fn writes_refusal(alloc: Global, why: Why, bytes: &[u8]) -> bool {
     }
 }
 
-// Whether a proposal and a query reply of both versions are written.
-fn writes_both(alloc: Global) -> Result<bool, OutOfMemory> {
+// Whether a proposal of both versions is written.
+fn writes_proposal(alloc: Global) -> Result<bool, OutOfMemory> {
     let proposal = Message::Propose(both(alloc)?);
+    Ok(writes(alloc, &proposal, PROPOSAL))
+}
+
+// Whether a query reply of both versions is written.
+fn writes_query_reply(alloc: Global) -> Result<bool, OutOfMemory> {
     let reply = Message::QueryReply(both(alloc)?);
-    Ok(writes(alloc, &proposal, PROPOSAL) && writes(alloc, &reply, QUERY_REPLY))
+    Ok(writes(alloc, &reply, QUERY_REPLY))
 }
 
 #[test]
 fn the_vectors_of_clients_are_written(rt: HostRuntime) {
-    assert!(rt; matches!(writes_both(rt.alloc()), Ok(true)));
+    assert!(rt; matches!(writes_proposal(rt.alloc()), Ok(true)));
+    assert!(rt; matches!(writes_query_reply(rt.alloc()), Ok(true)));
     let accept = Message::Accept(32785, Info::Known(OWN));
     assert!(rt; writes(rt.alloc(), &accept, ACCEPT));
     let none = Why::NoCommon(&[32784, 32785]);
