@@ -173,7 +173,13 @@ fn send(
     ensures { OnOk result (actions.new ≡ actions.old ++ sends context.now decision ∷ []) }
 {
     let message = answer(alloc, context.magic, decision)?;
-    let bytes = frame(alloc, RESPONDER, HANDSHAKE, context.moment, message.as_slice())?;
+    let bytes = frame(
+        alloc,
+        RESPONDER,
+        HANDSHAKE,
+        context.moment,
+        message.as_slice(),
+    )?;
     actions.push(ClientAction::Send(context.client, bytes))
 }
 

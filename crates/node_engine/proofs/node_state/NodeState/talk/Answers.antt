@@ -18,7 +18,7 @@ returns-in-Ok c =
     does_other c.take_request.result c.args.facts.now (asked_as (Ok c.in-Ok.seen) item.id) (talks item)
     c.args.self.now c.take_request.new.self c.args.actions.now c.args.actions.now c.take_request.new.actions c.requires.known
     (λ e there same done. talks-asked item c.args.facts.now e
-    c.args.self.now c.take_request.new.self c.args.actions.now c.take_request.new.actions c.if-item-ne0.false same
+    c.args.self.now c.take_request.new.self c.args.actions.now c.take_request.new.actions c.if-item-ne-INITIATOR.false same
     (subst (λ r. Does (asked_as r item.id e c.args.self.now) c.args.actions.now c.take_request.new.self c.take_request.new.actions) (sym is) done))
     c.take_request.ensures
 
@@ -30,6 +30,6 @@ returns-in_ok-fault-in-Err c =
     does_other c.end.result c.args.facts.now (ending (Fault c.in_ok-fault-in-Err.field-0)) (talks item)
     c.args.self.now c.end.new.self c.args.actions.now c.args.actions.now c.end.new.actions c.requires.known
     (λ e there same done. talks-asked item c.args.facts.now e
-    c.args.self.now c.end.new.self c.args.actions.now c.end.new.actions c.if-item-ne0.false same
+    c.args.self.now c.end.new.self c.args.actions.now c.end.new.actions c.if-item-ne-INITIATOR.false same
     (subst (λ r. Does (asked_as r item.id e c.args.self.now) c.args.actions.now c.end.new.self c.end.new.actions) (sym is) done))
     c.end.ensures
