@@ -141,7 +141,7 @@ index_of-without cid above most (g ∷ gs) f rises found = elim (cases_Bool (has
 
 -- ---- what stands in an index
 
-stands-put_in : (old new : Placed) (ps : List Placed) → stands old (put_in new ps) ≡ (same_placed new old || stands old ps)
+pub stands-put_in : (old new : Placed) (ps : List Placed) → stands old (put_in new ps) ≡ (same_placed new old || stands old ps)
 stands-put_in old new [] = elim (cases_Bool (same_placed new old)) [ inl same ↦ rw same refl | inr other ↦ rw other refl ]
 stands-put_in old new (p ∷ ps) = elim (cases_Bool (placed_below p new)) [
   | inl under ↦ elim (cases_Bool (same_placed p old)) [
@@ -158,6 +158,20 @@ stands-put_in old new (p ∷ ps) = elim (cases_Bool (placed_below p new)) [
     first : (b : Bool) → is_some (cond b (Some new) (find (λ x. same_placed x old) (p ∷ ps))) ≡ (b || stands old (p ∷ ps))
     first true = refl
     first false = refl
+
+pub put_in-stands : (new : Placed) (ps : List Placed) → stands new (put_in new ps) ≡ true
+put_in-stands new ps = stands-put_in new new ps ∙ ap (λ b. b || stands new ps) (same_placed-itself new)
+
+-- the next id is none of theirs
+pub next-absent : (new : Placed) (above most : ℕ) (fs : List Facts) → IdsRise above most fs → most < new.cid.0 → stands new (index_of fs) ≡ false
+next-absent new above most [] rises next = refl
+next-absent new above most (f ∷ fs) rises next =
+    stands-put_in new (placed_of f) (index_of fs)
+    ∙ (ap (λ b. b || stands new (index_of fs)) (other_by_id (placed_of f) new (lower f.cid.0 new.cid.0 (omega (arith, up_to_most f.cid.0 most fs rises.1, next))))
+    ∙ next-absent new f.cid.0 most fs rises.1 next)
+  where
+    lower : (n m : ℕ) → n < m → (n == m) ≡ false
+    lower n m h = grind (arith, nat_tests)
 
 pub index_stands : (cid : ℕ) (fs : List Facts) (f : Facts) → facts_at cid fs ≡ Some f → stands (placed_of f) (index_of fs) ≡ true
 index_stands cid [] f found = cc

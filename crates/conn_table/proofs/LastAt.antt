@@ -1,5 +1,5 @@
 -- The last of a rising list that has an address stands before the first above it.
-use Rattle.std.proofs.Common.{◌≡◌, ℕ, suc, zero, ◌+◌, Bool, true, false, ◌||◌, List, [], ◌∷◌, slice_get, None, refl, sym, subst, ap, ◌∙◌, inl, inr, ◌⊎◌, arith}
+use Rattle.std.proofs.Common.{◌≡◌, ℕ, suc, zero, ◌+◌, Bool, true, false, ◌||◌, List, [], ◌∷◌, slice_get, None, Some, refl, sym, subst, ap, ◌∙◌, inl, inr, ◌⊎◌, arith}
 use Rattle.std.specs.List.{AllByRecursion, prefix_len}
 use Rattle.std.proofs.lemmas.Bool.{cases_Bool, true≢false, and_parts}
 use Rattle.net_base.specs.Address.{same_address, address_below}
@@ -138,3 +138,21 @@ last_at-found addr (p ∷ ps) rises = elim (cases_Bool (up_to addr p)) [
       let above = over_is_above addr p over in
       rw (over, none_above addr ps (above-all addr p ps above rises.0), address_turned p.addr addr above) refl
 ]
+
+-- ---- its address
+
+pub last_at-address : (addr : Addr) (ps : List Placed) (p : Placed) → last_at addr ps ≡ Some p → p.addr ≡ addr
+last_at-address addr [] p h = cc
+last_at-address addr (q ∷ qs) p h = elim (cases_Bool (placed_at addr qs)) [
+  | inl later ↦ last_at-address addr qs p (rw later at h)
+  | inr none ↦ elim (cases_Bool (is_at addr q)) [
+    | inl here ↦ sym (ap (λ r. r.addr) (some_is (rw (none, here) at h))) ∙ same_address-is q.addr addr here
+    | inr other ↦ absurd (some_none (rw (none, other) at h))
+  ]
+]
+  where
+    some_is : Some q ≡ Some p → q ≡ p
+    some_is h = cc
+
+    some_none : None ≡ Some p → ⊥
+    some_none h = cc

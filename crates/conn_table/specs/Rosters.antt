@@ -10,6 +10,7 @@ use Rattle.conn_table.specs.Answers.{any_at}
 use Rattle.conn_table.specs.Index.{index_of}
 use Rattle.conn_table.specs.Table.{IdsRise}
 use Rattle.conn_table.specs.Finds.{id_place}
+use Rattle.conn_table.specs.declared.placed.Placed.{Placed}
 use Rattle.conn_table.specs.declared.recent.Recent.{Recent}
 use Rattle.conn_table.specs.declared.roster.Roster.{Roster}
 
@@ -30,11 +31,11 @@ pub record IsKept (roster : Roster) : Type 0 where
   pub few : roster.given ≤ 2 ^ 48
   pub ids_rise : IdsRise 0 roster.given (facts_kept roster)
   pub last_lives : OnlyLastLives (facts_kept roster)
-  pub indexed : roster.index ≡ index_of (facts_kept roster)
   pub counted : roster.counted ≡ counted (facts_kept roster)
   pub recent : IsWhere roster.recent (facts_kept roster)
 
 -- what every table keeps
-pub record IsSettled (settings : Settings) (roster : Roster) : Type 0 where
+pub record IsSettled (settings : Settings) (roster : Roster) (index : List Placed) : Type 0 where
   pub settings_sound : AreSound settings
   pub is_kept : IsKept roster
+  pub indexed : index ≡ index_of (facts_kept roster)

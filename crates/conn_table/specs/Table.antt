@@ -16,19 +16,17 @@ pub record Table : Type 0 where
 abbrev pub empty_table : Settings → Table
 empty_table settings = record { settings = settings; facts = []; given = 0 }
 
+-- the table with one more connection, under the next id
+abbrev pub with_entered : Facts → Table → Table
+with_entered f t = record t { facts = t.facts ++ f ∷ []; given = t.given + 1 }
+
 -- the table after a peer was let in under the next id, at a moment
 abbrev pub with_accepted : Addr → ℕ → Table → Table
-with_accepted addr now t = record t {
-  facts = t.facts ++ accepted (t.given + 1) addr (now + t.settings.handshake) ∷ [];
-  given = t.given + 1;
-}
+with_accepted addr now t = with_entered (accepted (t.given + 1) addr (now + t.settings.handshake)) t
 
 -- the table after this side has begun to dial an address, under the next id
 abbrev pub with_dialing : Addr → Table → Table
-with_dialing addr t = record t {
-  facts = t.facts ++ dialing (t.given + 1) addr ∷ [];
-  given = t.given + 1;
-}
+with_dialing addr t = with_entered (dialing (t.given + 1) addr) t
 
 -- the one with an id has made a move, and each other is as it was
 abbrev pub moved_at : ℕ → (Facts → Facts) → List Facts → List Facts

@@ -1,15 +1,14 @@
 ghost use Rattle.std.specs.Prelude.{◌≡◌, ◌+◌, ◌++◌, ◌∷◌, ◌<◌, ◌^◌, [], length, Some, None, OnOk, OnErr, IsSome, IsSomeAnd, slice_get, ℕ, if◌then◌else◌};
-ghost use Rattle.std.specs.Option.{option_copied};
+ghost use Rattle.std.specs.Option.{option_copied, option_map};
 ghost use Rattle.conn_state.specs.State.{facts_of};
 ghost use Rattle.conn_state.specs.Use.{facts_at, live_at};
-ghost use Rattle.conn_table.specs.Answers.{any_at, any_acquirable, may_acquire};
 ghost use Rattle.conn_table.specs.Conditions.{CanStep, after_step};
 ghost use Rattle.conn_table.specs.Index.{placed_of};
 ghost use Rattle.conn_table.specs.Finds.{id_place, newest, found_with, StandsAt};
 ghost use Rattle.conn_table.specs.Table.{moved_at, without_at};
 
 use crate::step::{Step, stepped};
-use crate::{Placed, PlacedList, Recent};
+use crate::{Placed, Recent};
 use chunked_list::ChunkedList;
 use conn_state::facts::{is_counted, is_live};
 use conn_state::{ConnState, ReservedOutbound};
@@ -21,8 +20,6 @@ use std::alloc::Global;
 #[derive(Drop)]
 pub struct Roster {
     pub states: ChunkedList<ConnState>,
-    /// By address and then id.
-    pub index: PlacedList,
     /// How many the limits count.
     pub counted: u64,
     /// How many ids were given.
@@ -42,7 +39,6 @@ impl Roster {
     {
         Roster {
             states: ChunkedList::new(alloc),
-            index: PlacedList::new(alloc),
             counted: 0,
             given: 0,
             recent: None,
@@ -57,35 +53,18 @@ impl Roster {
         self.facts_there(self.place_of(cid), cid)
     }
 
-    // Where the last connection of an address stands: only that one may be live.
-    fn newest(&self, addr: Addr) -> Option<usize>
-        requires { IsKept self.now }
-        ensures { StandsAt (facts_kept self.now) (newest addr (facts_kept self.now)) result }
+    /// Where the live connection of an address stands, of which the last one that has it is told: only that one may be live.
+    pub fn if_live(&self, last: Placed) -> Option<usize>
+        requires kept { IsKept self.now }
+        requires last { option_map placed_of (newest last.addr (facts_kept self.now)) ≡ Some last }
+        ensures { StandsAt (facts_kept self.now) (live_at last.addr (facts_kept self.now)) result }
     {
-        let placed = self.index.last_at(addr)?;
-        Some(self.place_of(placed.cid))
-    }
-
-    /// Where the live connection of an address stands. There is no other one that may be taken into use.
-    pub fn live(&self, addr: Addr) -> Option<usize>
-        requires { IsKept self.now }
-        ensures value { StandsAt (facts_kept self.now) (live_at addr (facts_kept self.now)) result }
-        ensures only { may_acquire (live_at addr (facts_kept self.now)) ≡ any_acquirable addr (facts_kept self.now) }
-    {
-        let place = self.newest(addr)?;
+        let place = self.place_of(last.cid);
         if is_live(self.at(place)) {
             Some(place)
         } else {
             None
         }
-    }
-
-    /// Whether some connection has an address, closed or not.
-    pub fn any_of(&self, addr: Addr) -> bool
-        requires { IsKept self.now }
-        ensures { result ≡ any_at addr (facts_kept self.now) }
-    {
-        self.index.last_at(addr).is_some()
     }
 
     /// What is known of the connection at a place.
@@ -108,14 +87,9 @@ impl Roster {
         ensures err { OnErr result (facts_kept self.new ≡ facts_kept self.old) }
         ensures none_given { OnErr result (self.new.given ≡ self.old.given) }
     {
-        let facts = state.facts();
-        let place = self.states.len();
+        let is_counted = is_counted(state.as_facts());
         self.states.push(state)?;
-        if let Err(refused) = self.index.insert(placed(&facts)) {
-            self.states.remove(place);
-            return Err(refused);
-        }
-        self.counted = recounted(self.counted, false, is_counted(&facts));
+        self.counted = recounted(self.counted, false, is_counted);
         self.given += 1;
         self.recent = None;
         Ok(())
@@ -178,7 +152,6 @@ impl Roster {
         ensures given { self.new.given ≡ self.old.given }
     {
         let facts = self.states.remove(place).facts();
-        self.index.remove(placed(&facts));
         self.counted = recounted(self.counted, is_counted(&facts), false);
         self.recent = None;
         facts
@@ -203,15 +176,6 @@ impl Roster {
     {
         let facts = self.states.get(place)?.as_facts();
         if facts.cid == cid { Some(facts) } else { None }
-    }
-}
-
-fn placed(facts: &Facts) -> Placed
-    ensures { result ≡ placed_of facts.now }
-{
-    Placed {
-        addr: facts.addr,
-        cid: facts.cid,
     }
 }
 

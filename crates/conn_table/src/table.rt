@@ -1,20 +1,22 @@
-ghost use Rattle.std.specs.Prelude.{◌≡◌, ◌<◌, Some, length, slice_get, IfOk, OnOk, OnErr};
+ghost use Rattle.std.specs.Prelude.{◌≡◌, ◌+◌, ◌<◌, ◌^◌, None, Some, length, slice_get, IsSome, IsSomeAnd, IfOk, OnOk, OnErr};
 ghost use Rattle.std.specs.Option.{option_map};
 ghost use Rattle.conn_state.specs.Counted.{counted};
+ghost use Rattle.conn_state.specs.State.{facts_of};
 ghost use Rattle.conn_state.specs.Use.{facts_at, live_at};
-ghost use Rattle.conn_table.specs.Answers.{any_at, any_acquirable, is_leased, lease_of};
+ghost use Rattle.conn_table.specs.Answers.{any_at, any_acquirable, is_leased, lease_of, may_acquire};
 ghost use Rattle.conn_table.specs.Calls.{CanAdmit, CanDial, CanConnect, CanNegotiate, CanRelease, CanStart, CanStop, CanEndGrace, CanDrop, CanDropLeased};
 ghost use Rattle.conn_table.specs.Calls.{after_admit, after_dial, after_connect, after_negotiate, after_acquire_at, after_release, after_awake, after_idle, after_grace, after_drop};
 ghost use Rattle.conn_table.specs.Calls.{next_id, negotiated_lease, acquire_at, grace_end_at};
-ghost use Rattle.conn_table.specs.Index.{index_of, IsRising};
+ghost use Rattle.conn_table.specs.Index.{index_of, placed_of, IsRising};
 ghost use Rattle.conn_table.specs.Finds.{id_place, StandsAt};
 ghost use Rattle.conn_table.specs.Rosters.{OnlyLastLives};
-ghost use Rattle.conn_table.specs.Table.{empty_table, IdsRise};
+ghost use Rattle.conn_table.specs.Conditions.{CanStep, after_step};
+ghost use Rattle.conn_table.specs.Table.{empty_table, with_entered, with_moved, IdsRise};
 ghost use Rattle.net_base.specs.Bounds.{AreSound};
 
 use crate::roster::Roster;
 use crate::step::Step;
-use crate::{Acquire, GraceEnd, LocalLease, PlacedList};
+use crate::{Acquire, GraceEnd, LocalLease, Placed, PlacedList};
 use conn_state::facts::{is_acquirable, is_outbound};
 use conn_state::names::name_of;
 use conn_state::{ConnState, ReservedOutbound, Unnegotiated};
@@ -28,9 +30,13 @@ use std::marker::Model;
 pub struct ConnTable {
     settings: Settings,
     roster: Roster,
+    // by address and then id
+    index: PlacedList,
 }
 
 impl Model for ConnTable {
+    ghost use Rattle.std.specs.Prelude.{◌≡◌};
+    ghost use Rattle.conn_table.specs.Index.{index_of};
     ghost use Rattle.conn_table.specs.Rosters.{IsSettled, facts_kept};
     ghost use Rattle.conn_table.specs.Finds.{if_live};
     ghost use Rattle.conn_table.specs.Table.{Table};
@@ -39,7 +45,7 @@ impl Model for ConnTable {
 
     ghost view = { λ t. record { settings = t.settings; facts = facts_kept t.roster; given = t.roster.given } };
 
-    ghost invariant = { λ t. IsSettled t.settings t.roster };
+    ghost invariant = { λ t. IsSettled t.settings t.roster t.index };
 }
 
 impl ConnTable {
@@ -51,6 +57,7 @@ impl ConnTable {
         ConnTable {
             settings: *settings,
             roster: Roster::new(alloc),
+            index: PlacedList::new(alloc),
         }
     }
 
@@ -65,7 +72,7 @@ impl ConnTable {
         let cid = Cid(self.roster.given + 1);
         let until = now + self.settings.handshake;
         let state = Unnegotiated::accepted(cid, addr, until);
-        self.roster.enter(ConnState::Unnegotiated(state))?;
+        self.enter(ConnState::Unnegotiated(state))?;
         Ok(cid)
     }
 
@@ -79,7 +86,7 @@ impl ConnTable {
     {
         let cid = Cid(self.roster.given + 1);
         let state = ReservedOutbound::new(cid, addr);
-        self.roster.enter(ConnState::ReservedOutbound(state))?;
+        self.enter(ConnState::ReservedOutbound(state))?;
         Ok(cid)
     }
 
@@ -89,7 +96,7 @@ impl ConnTable {
         ensures { self.new ≡ after_connect cid.0 now self.old }
     {
         let until = now + self.settings.handshake;
-        self.roster.turn(cid, Step::Connected(until));
+        self.turn(cid, Step::Connected(until));
     }
 
     /// The handshake is over. A lease comes with a connection that this side dialed.
@@ -99,7 +106,7 @@ impl ConnTable {
         ensures table { self.new ≡ after_negotiate cid.0 agreed now self.old }
     {
         let until = now + self.settings.idle;
-        let facts = self.roster.turn(cid, Step::Negotiated(agreed, until));
+        let facts = self.turn(cid, Step::Negotiated(agreed, until));
         lease_by(&facts)
     }
 
@@ -110,7 +117,7 @@ impl ConnTable {
         ensures leased { is_leased result ≡ any_acquirable addr self.old.facts }
         ensures last_lives { OnlyLastLives self.old.facts }
     {
-        match self.roster.live(addr) {
+        match self.live(addr) {
             None => Acquire::NoSuch,
             Some(place) => self.acquire_at(addr, place),
         }
@@ -122,7 +129,7 @@ impl ConnTable {
         ensures { self.new ≡ after_release lease.0 now self.old }
     {
         let until = now + self.settings.idle;
-        self.roster.turn(lease.cid(), Step::Release(until));
+        self.turn(lease.cid(), Step::Release(until));
     }
 
     /// The other side starts the responder of a protocol.
@@ -130,7 +137,7 @@ impl ConnTable {
         requires { CanStart cid.0 protocol self.old }
         ensures { self.new ≡ after_awake cid.0 protocol self.old }
     {
-        self.roster.turn(cid, Step::Awake(protocol));
+        self.turn(cid, Step::Awake(protocol));
     }
 
     /// The responder of a protocol stops.
@@ -139,7 +146,7 @@ impl ConnTable {
         ensures { self.new ≡ after_idle cid.0 protocol now self.old }
     {
         let until = now + self.settings.idle;
-        self.roster.turn(cid, Step::Idle(protocol, until));
+        self.turn(cid, Step::Idle(protocol, until));
     }
 
     /// The grace of a connection is over. Where it is in no use, this side closes it.
@@ -149,7 +156,7 @@ impl ConnTable {
         ensures table { self.new ≡ after_grace cid.0 now self.old }
     {
         let until = now + self.settings.timewait;
-        let facts = self.roster.turn(cid, Step::GraceOver(until));
+        let facts = self.turn(cid, Step::GraceOver(until));
         if facts.local {
             GraceEnd::Expired
         } else {
@@ -162,7 +169,7 @@ impl ConnTable {
         requires { CanDrop cid.0 self.old }
         ensures { self.new ≡ after_drop cid.0 self.old }
     {
-        self.roster.remove(cid);
+        self.remove(cid);
     }
 
     /// A connection in local use goes.
@@ -170,7 +177,7 @@ impl ConnTable {
         requires { CanDropLeased lease.0 self.old }
         ensures { self.new ≡ after_drop lease.0 self.old }
     {
-        self.roster.remove(lease.cid());
+        self.remove(lease.cid());
     }
 
     /// What is known of the connection with an id. None where there is none.
@@ -185,7 +192,7 @@ impl ConnTable {
         ensures value { result ≡ option_map (λ f. f.cid) (live_at addr self.now.facts) }
         ensures last_lives { OnlyLastLives self.now.facts }
     {
-        let place = self.roster.live(addr)?;
+        let place = self.live(addr)?;
         Some(self.roster.at(place).cid)
     }
 
@@ -193,7 +200,7 @@ impl ConnTable {
     pub fn any_of(&self, addr: Addr) -> bool
         ensures { result ≡ any_at addr self.now.facts }
     {
-        self.roster.any_of(addr)
+        self.index.last_at(addr).is_some()
     }
 
     /// How many connections the limits count.
@@ -216,7 +223,7 @@ impl ConnTable {
         ensures value { result.now ≡ index_of self.now.facts }
         ensures rising { IsRising result.now }
     {
-        &self.roster.index
+        &self.index
     }
 
     /// The settings that the table was made with.
@@ -249,6 +256,53 @@ impl ConnTable {
         self.roster.place_of(cid)
     }
 
+    // Where the live connection of an address stands.
+    fn live(&self, addr: Addr) -> Option<usize>
+        ensures value { StandsAt self.now.facts (live_at addr self.now.facts) result }
+        ensures only { may_acquire (live_at addr self.now.facts) ≡ any_acquirable addr self.now.facts }
+        ensures last_lives { OnlyLastLives self.now.facts }
+    {
+        let last = self.index.last_at(addr)?;
+        self.roster.if_live(last)
+    }
+
+    // Takes in a connection under the next id. A refusal changes nothing.
+    fn enter(&mut self, state: ConnState) -> Result<(), OutOfMemory>
+        requires next { (facts_of state).cid.0 ≡ self.old.given + 1 }
+        requires few { self.old.given < 2 ^ 48 }
+        requires alone { live_at (facts_of state).addr self.old.facts ≡ None }
+        ensures ok { OnOk result (self.new ≡ with_entered (facts_of state) self.old) }
+        ensures err { OnErr result (self.new ≡ self.old) }
+    {
+        let placed = placed(state.as_facts());
+        self.index.insert(placed)?;
+        match self.roster.enter(state) {
+            Ok(()) => Ok(()),
+            Err(refused) => {
+                self.index.remove(placed);
+                Err(refused)
+            }
+        }
+    }
+
+    // The connection with an id makes a move that it has. The answer is what was known of it before.
+    fn turn(&mut self, cid: Cid, step: Step) -> Facts
+        requires { IsSomeAnd (facts_at cid.0 self.old.facts) (CanStep step) }
+        ensures was { facts_at cid.0 self.old.facts ≡ Some result }
+        ensures table { self.new ≡ with_moved cid.0 (after_step step) self.old }
+    {
+        self.roster.turn(cid, step)
+    }
+
+    // A connection that stands goes.
+    fn remove(&mut self, cid: Cid)
+        requires { IsSome (facts_at cid.0 self.old.facts) }
+        ensures { self.new ≡ after_drop cid.0 self.old }
+    {
+        let facts = self.roster.remove(cid);
+        self.index.remove(placed(&facts));
+    }
+
     // Takes the live connection of an address, which stands at a place, into use.
     fn acquire_at(&mut self, addr: Addr, place: usize) -> Acquire
         requires { StandsAt self.old.facts (live_at addr self.old.facts) (Some place) }
@@ -259,8 +313,9 @@ impl ConnTable {
         if !is_acquirable(facts) {
             return Acquire::NotReusable(name_of(facts));
         }
-        let facts = self.roster.turn_at(place, Step::Acquire);
-        Acquire::Leased(LocalLease::new(facts.cid))
+        let cid = facts.cid;
+        self.turn(cid, Step::Acquire);
+        Acquire::Leased(LocalLease::new(cid))
     }
 }
 
@@ -272,5 +327,14 @@ fn lease_by(facts: &Facts) -> Option<LocalLease>
         Some(LocalLease::new(facts.cid))
     } else {
         None
+    }
+}
+
+fn placed(facts: &Facts) -> Placed
+    ensures { result ≡ placed_of facts.now }
+{
+    Placed {
+        addr: facts.addr,
+        cid: facts.cid,
     }
 }

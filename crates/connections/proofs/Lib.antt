@@ -1,3 +1,4 @@
+pub mod LastLinks
 pub mod LinkedTurns
 pub mod Reading
 mod Retimed

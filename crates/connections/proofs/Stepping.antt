@@ -41,7 +41,6 @@ looked_at roster cid place found kept = record {
   few = kept.few;
   ids_rise = kept.ids_rise;
   last_lives = kept.last_lives;
-  indexed = kept.indexed;
   counted = kept.counted;
   recent = found;
 }

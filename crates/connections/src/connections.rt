@@ -1,9 +1,13 @@
-ghost use Rattle.std.specs.Prelude.{◌≡◌, Some, IfSome};
+ghost use Rattle.std.specs.Prelude.{◌≡◌, Some, IfSome, map};
 ghost use Rattle.std.specs.Option.{option_copied, option_map};
 ghost use Rattle.conn_state.specs.Counted.{counted};
 ghost use Rattle.net_base.specs.Bounds.{AreSound};
 ghost use Rattle.conn_state.specs.Use.{live_at};
+ghost use Rattle.conn_table.specs.Finds.{newest};
+ghost use Rattle.conn_table.specs.Index.{last_at, placed_of};
 ghost use Rattle.conn_table.specs.Rosters.{IsKept, facts_kept};
+ghost use Rattle.links.specs.Link.{place_of};
+ghost use Rattle.links.specs.Rows.{AreInOrder};
 ghost use Rattle.connections.specs.Standing.{none_standing, facts_in, entry_with, live_entry, used_entry, if_used};
 
 mod moves;
@@ -110,7 +114,7 @@ impl Connections {
         ensures value { result ≡ option_map (λ e. e.facts) (live_entry addr self.now) }
         ensures by_id { IfSome (live_entry addr self.now) (λ e. entry_with e.facts.cid.0 self.now ≡ Some e) }
     {
-        live_in(&self.kept.roster, addr)
+        live_in(&self.links, &self.kept.roster, addr)
     }
 
     /// The live connection of an address, where this node uses it.
@@ -118,16 +122,18 @@ impl Connections {
         ensures value { result ≡ option_map (λ e. e.facts) (used_entry addr self.now) }
         ensures by_id { IfSome (used_entry addr self.now) (λ e. entry_with e.facts.cid.0 self.now ≡ Some e) }
     {
-        if_used(live_in(&self.kept.roster, addr))
+        if_used(live_in(&self.links, &self.kept.roster, addr))
     }
 }
 
-// The live connection of an address.
-fn live_in(roster: &Roster, addr: Addr) -> Option<Facts>
-    requires { IsKept roster.now }
+// The live connection of an address, whose last link tells which it may be.
+fn live_in(links: &Links, roster: &Roster, addr: Addr) -> Option<Facts>
+    requires kept { IsKept roster.now }
+    requires last { AreInOrder links.now → last_at addr (map place_of links.now) ≡ option_map placed_of (newest addr (facts_kept roster.now)) }
     ensures { result ≡ live_at addr (facts_kept roster.now) }
 {
-    let place = roster.live(addr)?;
+    let last = links.last_at(addr)?;
+    let place = roster.if_live(last)?;
     Some(*roster.at(place))
 }
 

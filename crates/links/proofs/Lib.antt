@@ -1,2 +1,3 @@
 mod CountedLinks
 pub mod LinkEdits
+pub mod LinkFinds

@@ -1,5 +1,5 @@
 -- Links in a row, each found by its address and id.
-use Rattle.std.specs.Prelude.{◌≡◌, Bool, not, List, [], ◌∷◌, map, filter, Option, Some, None, if◌then◌else◌}
+use Rattle.std.specs.Prelude.{ℕ, zero, suc, ◌≡◌, Bool, not, List, [], ◌∷◌, map, filter, Option, Some, None, slice_get, if◌then◌else◌}
 use Rattle.std.specs.List.{list_any}
 use Rattle.conn_table.specs.Index.{placed_below, same_placed}
 use Rattle.conn_table.specs.declared.placed.Placed.{Placed}
@@ -37,6 +37,11 @@ without_link placed links = filter (λ l. not (same_placed (place_of l) placed))
 abbrev pub link_at : Placed → Option Link → Option Link
 link_at placed None = None
 link_at placed (Some l) = if same_placed (place_of l) placed then Some l else None
+
+-- the link before a place
+abbrev pub link_before : ℕ → List Link → Option Link
+link_before zero links = None
+link_before (suc place) links = slice_get links place
 
 -- a link among those by which the rules count, where they count by it, in place of the one of its connection
 abbrev pub counted_anew : Link → List Link → List Link

@@ -1,15 +1,16 @@
-ghost use Rattle.std.specs.Prelude.{◌≡◌, ◌≤◌, [], true, false, is_some, length, slice_get, OnOk, OnErr};
+ghost use Rattle.std.specs.Prelude.{◌≡◌, ◌≤◌, [], true, false, is_some, length, map, slice_get, OnOk, OnErr};
 ghost use Rattle.std.specs.List.{prefix_len};
-ghost use Rattle.conn_table.specs.Index.{placed_below};
+ghost use Rattle.std.specs.Option.{option_map};
+ghost use Rattle.conn_table.specs.Index.{found_at, last_at, placed_below, up_to};
 ghost use Rattle.links.specs.Link.{place_of};
-ghost use Rattle.links.specs.Rows.{AreInOrder, stands_at, link_at, with_new, with_link, without_link};
+ghost use Rattle.links.specs.Rows.{AreInOrder, stands_at, link_at, link_before, with_new, with_link, without_link};
 ghost use Rattle.govern_rules.specs.SortedLinks.{IsInOrder};
 
 use crate::link::place_of;
 use chunked_list::ChunkedList;
 use conn_table::Placed;
 use govern_rules::Link;
-use net_base::OutOfMemory;
+use net_base::{Addr, OutOfMemory};
 use std::alloc::Global;
 use std::marker::Model;
 
@@ -47,6 +48,15 @@ impl LinkRow {
         ensures ordered { IsInOrder self.now }
     {
         &self.rows
+    }
+
+    /// The address and id of the last link with an address. None where there is none.
+    pub fn last_at(&self, addr: Addr) -> Option<Placed>
+        ensures value { result ≡ last_at addr (map place_of self.now) }
+        ensures ordered { AreInOrder self.now }
+    {
+        let end = end_of(&self.rows, addr);
+        placed_before(&self.rows, end, addr)
     }
 
     /// One more. A refusal changes nothing.
@@ -98,6 +108,22 @@ fn place_in(rows: &ChunkedList<Link>, placed: Placed) -> usize
     ensures bound { result ≤ length rows.now }
 {
     rows.partition_point(|link| is_below(link, &placed))
+}
+
+// How many links have an address up to one.
+fn end_of(rows: &ChunkedList<Link>, addr: Addr) -> usize
+    requires { AreInOrder rows.now }
+    ensures { result ≡ prefix_len (λ l. up_to addr (place_of l)) rows.now }
+{
+    rows.partition_point(|link| link.addr.is_up_to(&addr))
+}
+
+// The address and id of the link before a place, where it has an address.
+fn placed_before(rows: &ChunkedList<Link>, end: usize, addr: Addr) -> Option<Placed>
+    ensures { result ≡ found_at addr (option_map place_of (link_before end rows.now)) }
+{
+    let link = rows.get(end.checked_sub(1)?)?;
+    link.addr.is_same(&addr).then_some(place_of(link))
 }
 
 // Whether the address and id of a link are below some.

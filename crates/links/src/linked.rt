@@ -1,15 +1,16 @@
-ghost use Rattle.std.specs.Prelude.{◌≡◌, [], true, false, filter, OnOk, OnErr};
+ghost use Rattle.std.specs.Prelude.{◌≡◌, [], true, false, filter, map, OnOk, OnErr};
+ghost use Rattle.conn_table.specs.Index.{last_at};
 ghost use Rattle.govern_rules.specs.Lent.{is_counted};
 ghost use Rattle.govern_rules.specs.SortedLinks.{IsInOrder};
 ghost use Rattle.links.specs.Link.{place_of};
-ghost use Rattle.links.specs.Rows.{stands_at, with_new, with_link, without_link, counted_anew};
+ghost use Rattle.links.specs.Rows.{AreInOrder, stands_at, with_new, with_link, without_link, counted_anew};
 
 use crate::link::place_of;
 use crate::link_row::LinkRow;
 use chunked_list::ChunkedList;
 use conn_table::Placed;
 use govern_rules::{Link, LinkList};
-use net_base::OutOfMemory;
+use net_base::{Addr, OutOfMemory};
 use std::alloc::Global;
 use std::marker::Model;
 
@@ -44,6 +45,14 @@ impl Links {
             counted: LinkRow::new(alloc),
             has_all_counted: true,
         }
+    }
+
+    /// The address and id of the last connection with an address. None where there is none.
+    pub fn last_at(&self, addr: Addr) -> Option<Placed>
+        ensures value { result ≡ last_at addr (map place_of self.now) }
+        ensures ordered { AreInOrder self.now }
+    {
+        self.all.last_at(addr)
     }
 
     /// The link of one more connection. A refusal changes nothing; where there is no memory for it among those by which the

@@ -3,19 +3,12 @@ use Rattle.std.proofs.lemmas.List.{map-append}
 use Rattle.net_base.specs.declared.connection.Facts.{Facts}
 use Rattle.conn_state.specs.Counted.{is_counted, counted}
 use Rattle.conn_state.specs.State.{facts_of}
-use Rattle.conn_table.specs.Index.{IsRising, index_of, put_in, placed_of}
 use Rattle.conn_table.specs.Rosters.{facts_kept, OnlyLastLives}
 use Rattle.conn_table.specs.Table.{IdsRise}
 use Rattle.conn_table.proofs.IdPlaces.{IdsRise-push}
-use Rattle.conn_table.proofs.IndexFacts.{index_rises, index_of-push}
 use Rattle.conn_table.proofs.Lives.{OnlyLastLives-push}
 use Rattle.conn_table.proofs.Turns.{one_if, count_within, count-push}
 use Rattle.conn_table.proofs.roster.Roster.enter.Goals as goal
-
-pub insert-requires : goal.insert-requires
-insert-requires c =
-    let kept = c.args.self.now in
-    subst IsRising (sym c.requires.kept.indexed) (index_rises 0 kept.given (facts_kept kept) c.requires.kept.ids_rise)
 
 pub recounted-self-requires : goal.recounted-self-requires
 recounted-self-requires c =
@@ -34,14 +27,11 @@ returns-clause-kept c =
     let new : map facts_of c.push.new.self ≡ fs ++ f ∷ [] =
     ap (map facts_of) c.in_ok-push.ensures.ok
     ∙ map-append facts_of kept.states (c.args.state ∷ []) in
-    let placed : c.placed.result ≡ placed_of f = c.placed.ensures ∙ ap placed_of c.facts-facts.ensures.value in
-    let is_counted_now : c.is_counted.result ≡ is_counted f = c.is_counted.ensures ∙ ap is_counted c.facts-facts.ensures.value in
+    let is_counted_now : c.is_counted-is_counted.result ≡ is_counted f = c.is_counted-is_counted.ensures ∙ ap is_counted c.as_facts.ensures.value in
     record {
       few = omega (arith, c.requires.few);
       ids_rise = subst (IdsRise 0 (kept.given + 1)) (sym new) (IdsRise-push 0 kept.given fs f rises c.requires.next);
       last_lives = subst OnlyLastLives (sym new) (OnlyLastLives-push fs f c.requires.kept.last_lives c.requires.alone);
-      indexed = c.in_default.ensures.ok ∙ (ap (λ p. put_in p kept.index) placed ∙ (ap (put_in (placed_of f)) c.requires.kept.indexed
-          ∙ (sym (index_of-push 0 kept.given fs f rises c.requires.next) ∙ ap index_of (sym new))));
       counted = omega (
         arith,
         c.recounted-self.ensures,

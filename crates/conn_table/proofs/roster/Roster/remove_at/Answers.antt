@@ -5,11 +5,9 @@ use Rattle.net_base.specs.declared.connection.Facts.{Facts}
 use Rattle.conn_state.specs.Counted.{is_counted, counted}
 use Rattle.conn_state.specs.State.{facts_of}
 use Rattle.conn_state.specs.Use.{facts_at}
-use Rattle.conn_table.specs.Index.{IsRising, index_of, taken_out, stands, placed_of}
 use Rattle.conn_table.specs.Rosters.{facts_kept, OnlyLastLives}
 use Rattle.conn_table.specs.Table.{IdsRise, without_at}
 use Rattle.conn_table.proofs.IdPlaces.{place-get, found-get, remove-place, IdsRise-filter, count-without}
-use Rattle.conn_table.proofs.IndexFacts.{index_rises, index_stands, index_of-without}
 use Rattle.conn_table.proofs.Lives.{OnlyLastLives-filter}
 use Rattle.conn_table.proofs.StateFacts.{stands_there}
 use Rattle.conn_table.proofs.Turns.{one_if, map-remove, count_within}
@@ -18,22 +16,6 @@ use Rattle.conn_table.proofs.roster.Roster.remove_at.Goals as goal
 pub returns-clause-was : goal.returns-clause-was
 returns-clause-was c =
     stands_there c.args.self.now.states c.args.place c.remove.result c.requires.there c.remove.ensures.value ∙ ap Some (sym c.facts-facts.ensures.value)
-
-pub remove-requires-2-clause-rising : goal.remove-requires-2-clause-rising
-remove-requires-2-clause-rising c =
-    let roster = c.args.self.now in
-    subst IsRising (sym c.requires.kept.indexed) (index_rises 0 roster.given (facts_kept roster) c.requires.kept.ids_rise)
-
-pub remove-requires-2-clause-there : goal.remove-requires-2-clause-there
-remove-requires-2-clause-there c =
-    let roster = c.args.self.now in
-    let fs : List Facts = facts_kept roster in
-    let was : Facts = c.facts-facts.result in
-    let at : slice_get fs c.args.place ≡ Some was =
-    stands_there roster.states c.args.place c.remove.result c.requires.there c.remove.ensures.value ∙ ap Some (sym c.facts-facts.ensures.value) in
-    ap (λ p. stands p roster.index) c.placed.ensures
-    ∙ (ap (stands (placed_of was)) c.requires.kept.indexed
-    ∙ index_stands was.cid.0 fs was (found-get 0 roster.given fs c.args.place was c.requires.kept.ids_rise at))
 
 pub recounted-self-requires : goal.recounted-self-requires
 recounted-self-requires c =
@@ -75,8 +57,6 @@ returns-clause-kept c =
       few = c.requires.kept.few;
       ids_rise = subst (IdsRise 0 roster.given) (sym new) (IdsRise-filter _ 0 roster.given fs rises);
       last_lives = subst OnlyLastLives (sym new) (OnlyLastLives-filter _ fs c.requires.kept.last_lives);
-      indexed = c.remove-2.ensures ∙ (ap (λ p. taken_out p roster.index) c.placed.ensures ∙ (ap (taken_out (placed_of was)) c.requires.kept.indexed
-          ∙ (sym (index_of-without cid 0 roster.given fs was rises found) ∙ ap index_of (sym new))));
       counted = omega (
         arith,
         c.recounted-self.ensures,

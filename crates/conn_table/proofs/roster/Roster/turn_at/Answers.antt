@@ -4,12 +4,10 @@ use Rattle.conn_state.specs.Counted.{is_counted, counted}
 use Rattle.conn_state.specs.State.{facts_of}
 use Rattle.conn_state.specs.Use.{facts_at, is_live}
 use Rattle.conn_table.specs.Conditions.{CanStep, after_step}
-use Rattle.conn_table.specs.Index.{index_of}
 use Rattle.conn_table.specs.Rosters.{facts_kept, OnlyLastLives}
 use Rattle.conn_table.specs.Finds.{id_place}
 use Rattle.conn_table.specs.Table.{IdsRise, without_at}
 use Rattle.conn_table.proofs.IdPlaces.{place-get, id_place-moved, found-get, set-place, IdsRise-moved, count-moved, count-without}
-use Rattle.conn_table.proofs.IndexFacts.{index_of-moved}
 use Rattle.conn_table.proofs.Lives.{OnlyLastLives-moved}
 use Rattle.conn_table.proofs.StateFacts.{place_inside, was_there, step_keeps, steps_live}
 use Rattle.conn_table.proofs.Turns.{one_if, map-set_twice, count_within}
@@ -76,7 +74,6 @@ returns-clause-kept c =
       ids_rise = subst (IdsRise 0 kept.given) (sym new) (IdsRise-moved cid 0 kept.given move fs (λ f. ap (λ p. p.cid) (step_keeps c.args.step f)) rises);
       last_lives = subst OnlyLastLives (sym new) (OnlyLastLives-moved cid 0 kept.given move fs was (λ f. ap (λ p. p.addr) (step_keeps c.args.step f))
           rises found lives c.requires.kept.last_lives);
-      indexed = c.requires.kept.indexed ∙ (sym (index_of-moved cid move fs (step_keeps c.args.step)) ∙ ap index_of (sym new));
       counted = omega (
         arith,
         c.recounted-self.ensures,

@@ -6,5 +6,5 @@ use Rattle.conn_table.proofs.table.ConnTable.index.Goals as goal
 
 pub returns-clause-rising : goal.returns-clause-rising
 returns-clause-rising c =
-    let kept = c.self.invariant.is_kept in
-    subst IsRising (sym kept.indexed) (index_rises 0 c.self.inside.roster.given (facts_kept c.self.inside.roster) kept.ids_rise)
+    subst IsRising (sym c.self.invariant.indexed)
+    (index_rises 0 c.self.inside.roster.given (facts_kept c.self.inside.roster) c.self.invariant.is_kept.ids_rise)

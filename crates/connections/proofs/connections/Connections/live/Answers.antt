@@ -1,10 +1,15 @@
 use Rattle.std.proofs.Common.{◌≡◌, IfSome, Some, ap, sym, subst, ◌∙◌}
 use Rattle.std.specs.Option.{option_map}
 use Rattle.conn_state.specs.Use.{is_live_at}
+use Rattle.conn_table.specs.Finds.{newest}
+use Rattle.conn_table.specs.Index.{placed_of}
 use Rattle.conn_table.specs.Rosters.{facts_kept}
-use Rattle.connections.specs.Standing.{entry_with, live_entry}
+use Rattle.conn_table.specs.Table.{IdsRise}
+use Rattle.connections.specs.Kept.{standing}
+use Rattle.connections.specs.Standing.{facts_in, entry_with, live_entry}
 use Rattle.connections.proofs.TalkFinds.{entry_by_id}
-use Rattle.connections.proofs.TalkPairs.{find_paired}
+use Rattle.connections.proofs.LastLinks.{last-newest}
+use Rattle.connections.proofs.TalkPairs.{facts_paired, find_paired}
 use Rattle.connections.proofs.connections.Connections.live.Goals as goal
 
 pub returns-clause-value : goal.returns-clause-value
@@ -17,3 +22,12 @@ pub returns-clause-by_id : goal.returns-clause-by_id
 returns-clause-by_id c = subst (λ s. IfSome (live_entry c.args.addr s) (λ e. entry_with e.facts.cid.0 s ≡ Some e)) c.self.view_is
     (entry_by_id (λ e. is_live_at c.args.addr e.facts) 0 _ (facts_kept c.self.inside.kept.roster) c.self.inside.kept.talks
     c.self.invariant.0.roster_kept.ids_rise c.self.invariant.0.talks_are)
+
+pub live_in-requires-clause-last : goal.live_in-requires-clause-last
+live_in-requires-clause-last c =
+    let kept = c.self.inside.kept in
+    let paired : facts_in (standing kept) ≡ facts_kept kept.roster = facts_paired (facts_kept kept.roster) kept.talks c.self.invariant.0.talks_are in
+    λ ordered.
+    last-newest c.args.addr c.self.inside.links (standing kept) kept.roster.given ordered c.self.invariant.1.1
+    (subst (IdsRise 0 kept.roster.given) (sym paired) c.self.invariant.0.roster_kept.ids_rise)
+    ∙ ap (λ fs. option_map placed_of (newest c.args.addr fs)) paired
