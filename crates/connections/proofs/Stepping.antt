@@ -1,10 +1,9 @@
 -- What a step makes of a connection, by its facts and what is kept beside them.
-use Rattle.std.proofs.Common.{◌≡◌, ℕ, ◌<◌, Bool, true, false, if◌then◌else◌, ◌+◌, List, [], ◌∷◌, ◌++◌, map, find, length, slice_get, Some, IsSome, IsSomeAnd, Result, Ok, Err, OnErr, is_err, refl, sym, ap, subst, ◌∙◌, inl, inr}
+use Rattle.std.proofs.Common.{◌≡◌, ℕ, ◌<◌, Bool, true, false, if◌then◌else◌, ◌+◌, List, [], ◌∷◌, ◌++◌, map, find, length, slice_get, Some, IsSome, IsSomeAnd, Result, Ok, Err, OnErr, is_err, refl, sym, ap, subst, ◌∙◌}
 use Rattle.std.proofs.lemmas.Option.{same_Some}
 use Rattle.std.specs.List.{AllByRecursion, remove}
 use Rattle.std.specs.Option.{option_map}
-use Rattle.std.proofs.lemmas.Bool.{cases_Bool}
-use Rattle.conn_state.specs.Use.{has_id, is_live_at, live_at}
+use Rattle.conn_state.specs.Use.{is_live_at, live_at}
 use Rattle.conn_table.specs.Finds.{id_place}
 use Rattle.conn_table.specs.Conditions.{CanStep, after_step}
 use Rattle.conn_table.specs.Rosters.{IsKept, facts_kept}

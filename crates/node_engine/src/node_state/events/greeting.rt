@@ -6,7 +6,7 @@ ghost use Rattle.machine.specs.Greeting.{role_of, judged, decided};
 ghost use Rattle.machine.specs.Own.{own_info};
 ghost use Rattle.mux_segment.specs.Lent.{lent};
 ghost use Rattle.node_engine.specs.Greets.{CanJudge, CanFollow, greeted_as};
-ghost use Rattle.node_engine.specs.State.{Does, DoesTo, IsKnown};
+ghost use Rattle.node_engine.specs.State.{DoesTo, IsKnown};
 
 use crate::NodeState;
 use crate::own::own_info;

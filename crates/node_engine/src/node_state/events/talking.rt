@@ -11,7 +11,7 @@ use conn_state::facts::{is_sharing, serves_remote};
 use conn_state::responders::runs;
 use conn_table::Step;
 use mux_segment::{INITIATOR, LentItem, RESPONDER};
-use net_base::{ActionList, Addr, AddrList, Cid, CloseCause, Facts, FaultKind, OutOfMemory};
+use net_base::{ActionList, Addr, AddrList, CloseCause, Facts, FaultKind, OutOfMemory};
 use remote_watch::{Reply, Seen, reply_bytes, watch};
 
 impl NodeState {

@@ -1,4 +1,4 @@
-ghost use Rattle.std.specs.Prelude.{◌≡◌, OnOk};
+ghost use Rattle.std.specs.Prelude.{OnOk};
 ghost use Rattle.laws.specs.OrderNeeds.{MayCarry, MayAll};
 ghost use Rattle.machine.specs.Effect.{for_each};
 ghost use Rattle.machine.specs.Govern.{asks_peer, activates, deactivates, carries_out};

@@ -1,4 +1,4 @@
-use Rattle.std.proofs.Common.{◌≡◌, List, Option, None, Some, sym, subst, ap, ◌∙◌}
+use Rattle.std.proofs.Common.{◌≡◌, List, None, Some, sym, subst, ap, ◌∙◌}
 use Rattle.std.specs.Option.{option_map}
 use Rattle.net_base.specs.declared.connection.Facts.{Facts}
 use Rattle.conn_state.specs.Use.{live_at}

@@ -1,4 +1,4 @@
-use Rattle.std.proofs.Common.{◌<◌, Some, length, sym, subst}
+use Rattle.std.proofs.Common.{◌<◌, length, sym, subst}
 use Rattle.conn_state.specs.Use.{live_at}
 use Rattle.conn_table.specs.Finds.{StandsAt}
 use Rattle.conn_table.proofs.Lives.{stands_inside}
