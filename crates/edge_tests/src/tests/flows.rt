@@ -346,13 +346,20 @@ fn run(world: &mut FlowWorld) -> Result<(), OutOfMemory> {
     Ok(())
 }
 
+// Whether nothing went wrong, and much happened.
+fn is_well(world: &FlowWorld) -> bool {
+    world.wrong == 0 && world.ended > 30 && world.told > 10_000 && world.went > 10_000
+}
+
+fn goes_well(world: &mut FlowWorld) -> Result<bool, OutOfMemory> {
+    run(world)?;
+    Ok(is_well(world))
+}
+
 fn expect_order(rt: &impl Abort, alloc: Global, seed: u64, announce: bool) -> Result<(), Fail> {
     let mut world = opened(alloc, seed, announce)?;
-    run(&mut world)?;
-    assert!(rt; world.wrong == 0);
-    assert!(rt; world.ended > 30);
-    assert!(rt; world.told > 10_000);
-    assert!(rt; world.went > 10_000);
+    let is_well = goes_well(&mut world)?;
+    assert!(rt; is_well);
     Ok(())
 }
 

@@ -28,122 +28,69 @@ fn is_judged(settings: &Settings, field: Field) -> bool {
     settings.check() == Some(field)
 }
 
-// Each is judged so.
-fn expect_judged(rt: &impl Abort, rows: &[(Settings, Field)]) {
-    for (n, (settings, field)) in rows.iter().enumerate() {
-        assert!(rt; is_judged(settings, *field), "at row {n}");
+// The usual settings, but for one.
+fn with(field: Field, value: u64) -> Settings {
+    let mut settings = USUAL;
+    match field {
+        Field::Version => settings.version = value,
+        Field::Magic => settings.magic = value,
+        Field::InitiatorOnly => settings.initiator_only = value,
+        Field::Sharing => settings.sharing = value,
+        Field::Hard => settings.hard = value,
+        Field::Soft => settings.soft = value,
+        Field::Delay => settings.delay = value,
+        Field::Idle => settings.idle = value,
+        Field::Timewait => settings.timewait = value,
+        Field::Handshake => settings.handshake = value,
+        Field::Reply => settings.reply = value,
+        Field::Backoff => settings.backoff = value,
+        Field::Sharegap => settings.sharegap = value,
+        Field::Shares => settings.shares = value,
+        _ => {}
     }
+    settings
 }
+
+// Values that are out of range.
+const OUT_OF_RANGE: [(Field, u64); 15] = [
+    (Field::Version, 3),
+    (Field::Magic, 4_294_967_296),
+    (Field::InitiatorOnly, 2),
+    (Field::Sharing, 2),
+    (Field::Hard, 0),
+    (Field::Hard, 10_001),
+    (Field::Soft, 513),
+    (Field::Delay, 0),
+    (Field::Idle, DAY + 1),
+    (Field::Timewait, 0),
+    (Field::Handshake, 0),
+    (Field::Reply, DAY + 1),
+    (Field::Backoff, 0),
+    (Field::Sharegap, 0),
+    (Field::Shares, 9),
+];
 
 #[test]
 fn each_range_is_named_by_its_field(rt: HostRuntime) {
     assert!(rt; Settings::usual(USUAL.own) == USUAL);
     assert!(rt; USUAL.check().is_none());
-    let rows = [
-        (
-            Settings {
-                version: 3,
-                ..USUAL
-            },
-            Field::Version,
-        ),
-        (
-            Settings {
-                magic: 4_294_967_296,
-                ..USUAL
-            },
-            Field::Magic,
-        ),
-        (
-            Settings {
-                initiator_only: 2,
-                ..USUAL
-            },
-            Field::InitiatorOnly,
-        ),
-        (
-            Settings {
-                sharing: 2,
-                ..USUAL
-            },
-            Field::Sharing,
-        ),
-        (Settings { hard: 0, ..USUAL }, Field::Hard),
-        (
-            Settings {
-                hard: 10_001,
-                ..USUAL
-            },
-            Field::Hard,
-        ),
-        (Settings { soft: 513, ..USUAL }, Field::Soft),
-        (Settings { delay: 0, ..USUAL }, Field::Delay),
-        (
-            Settings {
-                idle: DAY + 1,
-                ..USUAL
-            },
-            Field::Idle,
-        ),
-        (
-            Settings {
-                timewait: 0,
-                ..USUAL
-            },
-            Field::Timewait,
-        ),
-        (
-            Settings {
-                handshake: 0,
-                ..USUAL
-            },
-            Field::Handshake,
-        ),
-        (
-            Settings {
-                reply: DAY + 1,
-                ..USUAL
-            },
-            Field::Reply,
-        ),
-        (
-            Settings {
-                backoff: 0,
-                ..USUAL
-            },
-            Field::Backoff,
-        ),
-        (
-            Settings {
-                sharegap: 0,
-                ..USUAL
-            },
-            Field::Sharegap,
-        ),
-        (Settings { shares: 9, ..USUAL }, Field::Shares),
-    ];
-    expect_judged(&rt, &rows);
+    for &(field, value) in &OUT_OF_RANGE {
+        assert!(rt; is_judged(&with(field, value), field), "at {value}");
+    }
 }
 
 #[test]
 fn the_version_is_judged_first(rt: HostRuntime) {
-    let rows = [
-        (
-            Settings {
-                version: 0,
-                shares: 9,
-                ..USUAL
-            },
-            Field::Version,
-        ),
-        (
-            Settings {
-                hard: 0,
-                shares: 9,
-                ..USUAL
-            },
-            Field::Hard,
-        ),
-    ];
-    expect_judged(&rt, &rows);
+    let version = Settings {
+        version: 0,
+        shares: 9,
+        ..USUAL
+    };
+    assert!(rt; is_judged(&version, Field::Version));
+    let hard = Settings {
+        hard: 0,
+        shares: 9,
+        ..USUAL
+    };
+    assert!(rt; is_judged(&hard, Field::Hard));
 }
