@@ -21,6 +21,13 @@ module _ {T : Type 0} (cs : List (Chunk T)) (fs : List ℕ) (place : ℕ) (right
   as_many : length fs ≡ length cs
   as_many = ap length right ∙ length-starts 0 cs
 
+  pub some_first : place < length (joined cs) → 0 < length fs
+  some_first inside = omega (arith, as_many, some_chunk cs inside)
+    where
+      some_chunk : (ds : List (Chunk T)) → place < length (joined ds) → 0 < length ds
+      some_chunk [] within = absurd (omega (arith, within))
+      some_chunk (c ∷ ds) within = omega arith
+
   pub first_is : (i d : ℕ) → i < length cs → get_or fs i d ≡ length (joined (take i cs))
   first_is i d inside = ap (λ l. get_or l i d) right ∙ start_is cs i d inside
 

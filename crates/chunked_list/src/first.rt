@@ -1,4 +1,5 @@
-ghost use Rattle.std.specs.Prelude.{◌≡◌, ◌+◌, ◌<◌, ◌≤◌, ◌^◌, ℕ, length, slice_index_or};
+ghost use Rattle.std.specs.Prelude.{◌≡◌, ◌+◌, ◌<◌, ◌≤◌, ◌^◌, ℕ, true, false, nat_le, length, slice_index_or};
+ghost use Rattle.std.specs.List.Sorted.{IsPartitionedBy, IsPartitionPoint};
 ghost use Rattle.chunked_list.specs.Firsts.{raised, lowered};
 
 // One item more stands before each chunk from a place on. The numbers stand close together, so that several are told
@@ -20,4 +21,33 @@ pub fn lower(firsts: &mut [usize], from: usize)
     for place in from..firsts.len() {
         firsts[place] -= 1;
     }
+}
+
+// How many chunks begin at a place of the list or before it. The last one is looked at first, and then the one where the place
+// would be if all had as many items.
+pub fn begun_by(firsts: &[usize], place: usize) -> usize
+    requires { 0 < length firsts.now }
+    ensures bound { result ≤ length firsts.now }
+    ensures partitioned { IsPartitionedBy (λ f. nat_le f place) firsts.now → IsPartitionPoint (λ f. nat_le f place ≡ true) (λ f. nat_le f place ≡ false) firsts.now result }
+{
+    let last = firsts.len() - 1;
+    if firsts[last] <= place {
+        return firsts.len();
+    }
+    let guess = place.wrapping_mul(last) / firsts[last];
+    if is_in(firsts, guess, last, place) {
+        return guess + 1;
+    }
+    firsts.partition_point(|first| *first <= place)
+}
+
+// Whether a place is in a chunk before the last one.
+fn is_in(firsts: &[usize], chunk: usize, last: usize, place: usize) -> bool
+    requires { length firsts.now ≡ last + 1 }
+    ensures { result ≡ true → IsPartitionedBy (λ f. nat_le f place) firsts.now → IsPartitionPoint (λ f. nat_le f place ≡ true) (λ f. nat_le f place ≡ false) firsts.now (chunk + 1) }
+{
+    if chunk >= last {
+        return false;
+    }
+    firsts[chunk] <= place && place < firsts[chunk + 1]
 }

@@ -2,7 +2,7 @@ ghost use Rattle.std.specs.Prelude.{◌≡◌, ◌<◌, ◌^◌, length, take, d
 ghost use Rattle.chunked_list.specs.Chunks.{joined, AreChunks, IsInside, place_of, halved};
 
 use crate::chunk::{Chunk, HALF};
-use crate::point::point_of;
+use crate::first::begun_by;
 
 // Where an item stands: in which chunk, and where in it.
 #[derive(Clone, Copy)]
@@ -18,7 +18,7 @@ pub fn spot_of<T>(chunks: &[Chunk<T>], firsts: &[usize], place: usize) -> Spot
     ensures inside { IsInside chunks.now result }
     ensures place { place_of chunks.now result ≡ place }
 {
-    let chunk = point_of(firsts, |first| *first <= place) - 1;
+    let chunk = begun_by(firsts, place) - 1;
     Spot {
         chunk,
         at: place - firsts[chunk],

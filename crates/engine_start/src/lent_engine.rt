@@ -23,8 +23,8 @@ impl Stepper for LentEngine {
         Ok(LentEngine { engine })
     }
 
-    fn step(&mut self, event: &Event) -> Result<ActionList, OutOfMemory> {
-        self.engine.step_in_place(event)
+    fn step(&mut self, event: &Event, memory: ActionList) -> Result<ActionList, OutOfMemory> {
+        self.engine.step_in_place(event, memory)
     }
 
     fn taken(&self) -> u64 {

@@ -2,6 +2,7 @@ ghost use Rattle.net_base.specs.Limits.{IsWithinLimits};
 
 use net_base::{ActionList, Addr, Event, Ip};
 use node_engine::Engine;
+use std::alloc::Global;
 use std::test::Fail;
 
 mod events;
@@ -19,11 +20,11 @@ fn local(port: u16) -> Addr {
 const EVENTS_MOST: u64 = 20_000;
 
 // What an engine does about an event.
-fn advance(engine: &mut Engine, event: &Event) -> Result<ActionList, Fail>
+fn advance(alloc: Global, engine: &mut Engine, event: &Event) -> Result<ActionList, Fail>
     requires { IsWithinLimits event.now }
 {
     if engine.taken() >= EVENTS_MOST {
         return Err("too many events".into());
     }
-    Ok(engine.step_in_place(event)?)
+    Ok(engine.step_in_place(event, ActionList::new(alloc))?)
 }

@@ -1,4 +1,4 @@
-ghost use Rattle.std.specs.Prelude.{◌≡◌, ◌++◌, false, IfOk};
+ghost use Rattle.std.specs.Prelude.{◌≡◌, ◌++◌, ◌-◌, false, IfOk};
 ghost use Rattle.std.specs.List.{IsDistinct, flat_map};
 ghost use Rattle.net_base.specs.Address.{same_address};
 ghost use Rattle.peer_book.specs.Book.{addresses_of};
@@ -129,18 +129,41 @@ fn number_of(valency: Valency, group: &Group, links: &LinkList, book: &PeerBook)
     let members = group.members.as_slice();
     match valency {
         Valency::WarmUp => {
-            let warm = count_among(Status::EstablishedOrPending, members, links, book);
-            group.warm.saturating_sub(warm)
+            missing_among(
+                group.warm,
+                Status::EstablishedOrPending,
+                members,
+                links,
+                book,
+            )
         }
-        Valency::HotUp => {
-            let hot = count_among(Status::HotOrOwesOn2, members, links, book);
-            group.hot.saturating_sub(hot)
-        }
+        Valency::HotUp => { missing_among(group.hot, Status::HotOrOwesOn2, members, links, book) }
         Valency::HotDown => {
             let hot = count_among(Status::Hot, members, links, book);
             hot.saturating_sub(group.hot)
         }
     }
+}
+
+// How many of those that are wanted are missing among ordinary peers with some addresses that have a status. Once none is, the
+// others are not looked at.
+fn missing_among(
+    wanted: u64,
+    status: Status,
+    addrs: &[Addr],
+    links: &LinkList,
+    book: &PeerBook,
+) -> u64
+    ensures { result ≡ wanted - count_with status false links.now (lookups book.now addrs.now) }
+{
+    let mut nearby = Nearby::new(book);
+    let mut missing = wanted;
+    for addr in addrs {
+        if missing > 0 {
+            missing = missing.saturating_sub(count_with(status, nearby.at(addr), links));
+        }
+    }
+    missing
 }
 
 // How many ordinary peers with some addresses have a status. They are counted where they stand in the book.

@@ -58,7 +58,7 @@ impl<S: Stepper> Seat<S> {
             return Ok(None);
         }
         self.is_lost = true;
-        let actions = self.stepper.step(event)?;
+        let actions = self.stepper.step(event, ActionList::new(alloc))?;
         keep_on(alloc, &mut self.kept, event, actions.as_slice())?;
         self.is_lost = false;
         Ok(Some(actions))

@@ -77,12 +77,18 @@ impl Engine {
         ensures event { IfOk result (λ r. IsLawfulEvent self.machine event) }
     {
         let mut engine = self;
-        let actions = engine.step_in_place(&event)?;
+        let none = engine.machine.no_actions();
+        let actions = engine.step_in_place(&event, none)?;
         Ok((engine, actions))
     }
 
-    /// The same where engine and event are lent. On a refusal all that it knew is gone.
-    pub fn step_in_place(&mut self, event: &Event) -> Result<ActionList, OutOfMemory>
+    /// The same where engine and event are lent, and the actions stand in the memory of a list that is given. On a refusal
+    /// all that the engine knew is gone.
+    pub fn step_in_place(
+        &mut self,
+        event: &Event,
+        memory: ActionList,
+    ) -> Result<ActionList, OutOfMemory>
         requires few { self.old.events < 1000000 }
         requires within { IsWithinLimits event.now }
         ensures machine { OnOk result (self.new.machine ≡ (step self.old.machine event.now).machine) }
@@ -92,7 +98,10 @@ impl Engine {
         ensures record { OnOk result (IsLawfulRecord self.new.machine) }
         ensures event { OnOk result (IsLawfulEvent self.old.machine event.now) }
     {
-        match self.machine.handle(event, &self.picker, &self.ranked) {
+        match self
+            .machine
+            .handle(event, &self.picker, &self.ranked, memory)
+        {
             Ok(actions) => {
                 self.events += 1;
                 Ok(actions)

@@ -1,11 +1,11 @@
-ghost use Rattle.std.specs.Prelude.{◌≡◌, ◌≤◌, ◌+◌, ◌^◌, OnOk, IfOk};
+ghost use Rattle.std.specs.Prelude.{◌≡◌, ◌≤◌, ◌+◌, ◌^◌, [], OnOk, IfOk};
 ghost use Rattle.laws.specs.Steady.{IsSteady};
 ghost use Rattle.machine.specs.Step.{step};
 ghost use Rattle.net_base.specs.Limits.{IsWithinLimits};
 ghost use Rattle.node_engine.specs.Blank.{blank};
 
 use crate::NodeState;
-use net_base::{ActionList, Event, OutOfMemory, Sequence};
+use net_base::{ActionList, Event, OutOfMemory};
 use pick_policy::{Picker, RankedPicker};
 use std::alloc::Global;
 use std::marker::Model;
@@ -48,12 +48,20 @@ impl HeldState {
         &self.state
     }
 
-    /// What happens to the node, and what it does about it.
+    /// No actions yet. Takes no memory.
+    pub(crate) fn no_actions(&self) -> ActionList
+        ensures { result ≡ [] }
+    {
+        ActionList::new(self.alloc)
+    }
+
+    /// What happens to the node, and what it does about it. The actions stand in memory that is given.
     pub(crate) fn handle(
         &mut self,
         event: &Event,
         picker: &Picker,
         ranked: &RankedPicker,
+        memory: ActionList,
     ) -> Result<ActionList, OutOfMemory>
         requires steady { IsSteady self.old }
         requires few_ids { self.old.next_id + 60000 ≤ 2 ^ 48 }
@@ -62,7 +70,7 @@ impl HeldState {
         ensures machine { OnOk result (self.new ≡ (step self.old event.now).machine) }
         ensures actions { IfOk result (λ actions. actions ≡ (step self.old event.now).actions) }
     {
-        let mut actions = Sequence::new(self.alloc);
+        let mut actions = cleared(memory);
         self.state.respond(event, picker, ranked, &mut actions)?;
         Ok(actions)
     }
@@ -73,4 +81,13 @@ impl HeldState {
     {
         self.state.forget();
     }
+}
+
+// A list without its items, of which it keeps the memory.
+fn cleared(list: ActionList) -> ActionList
+    ensures { result ≡ [] }
+{
+    let mut items = list.into_vec();
+    items.clear();
+    ActionList::from_vec(items)
 }

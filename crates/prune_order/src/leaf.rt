@@ -1,4 +1,4 @@
-ghost use Rattle.std.specs.Prelude.{◌≡◌, ◌≤◌, length};
+ghost use Rattle.std.specs.Prelude.{◌≡◌, ◌≤◌, ◌<◌, length, IfSome};
 ghost use Rattle.std.specs.List.{prefix_len};
 ghost use Rattle.prune_order.specs.Kept.{AreRising, IsOfWords};
 ghost use Rattle.prune_order.specs.Keys.{key_in, cid_in};
@@ -7,6 +7,7 @@ ghost use Rattle.timer_queue.specs.Timers.{cid_below};
 
 use least_tree::{NONE, key, second};
 use net_base::Cid;
+use timer_queue::place_from;
 
 // How a connection that came stands.
 #[derive(Clone, Copy, PartialEq, Eq)]
@@ -73,5 +74,19 @@ pub fn place_of(leaves: &[Leaf], cid: Cid) -> usize
     ensures value { result ≡ prefix_len (λ l. cid_below l.cid cid) leaves.now }
     ensures bound { result ≤ length leaves.now }
 {
-    leaves.partition_point(|leaf| leaf.cid < cid)
+    match place_by_last(leaves, cid) {
+        Some(place) => place,
+        None => leaves.partition_point(|leaf| leaf.cid < cid),
+    }
+}
+
+// The same of an id that has a leaf, where each id between it and the last one has.
+fn place_by_last(leaves: &[Leaf], cid: Cid) -> Option<usize>
+    requires { AreRising leaves.now }
+    ensures { IfSome result (λ place. place ≡ prefix_len (λ l. cid_below l.cid cid) leaves.now × place < length leaves.now) }
+{
+    let last = leaves.last()?;
+    let place = place_from(leaves.len(), last.cid, cid)?;
+    let leaf = leaves.get(place)?;
+    if leaf.cid == cid { Some(place) } else { None }
 }

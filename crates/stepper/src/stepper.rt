@@ -25,8 +25,8 @@ pub trait Stepper: Drop {
         ensures machine { IfOk result (λ s. machine s ≡ start_of settings) }
         ensures events { IfOk result (λ s. events s ≡ 0) };
 
-    /// Takes an event, and gives what the machine does about it.
-    fn step(&mut self, event: &Event) -> Result<ActionList, OutOfMemory>
+    /// Takes an event, and gives what the machine does about it, in the memory of a list that is given.
+    fn step(&mut self, event: &Event, memory: ActionList) -> Result<ActionList, OutOfMemory>
         requires few { events self.old < 1000000 }
         requires within { IsWithinLimits event.now }
         ensures machine { OnOk result (machine self.new ≡ (step (machine self.old) event.now).machine) }

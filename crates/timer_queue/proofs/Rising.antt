@@ -131,6 +131,28 @@ module _ {K : Type 0} (below same : K → K → Bool) (order : IsOrder below sam
       ]
     ]
 
+    found-above : (k : K) (xs : List X) (i : ℕ) → AllAbove k xs → is_some (found k (slice_get xs i)) ≡ false
+    found-above k [] i h = refl
+    found-above k (x ∷ xs) zero h = rw (above_is_other (key x) k h.0) refl
+    found-above k (x ∷ xs) (suc i) h = found-above k xs i h.1
+
+    -- what is at a key stands at its place
+    pub place-found : (k : K) (xs : List X) (i : ℕ) → IsRising below key xs → is_some (found k (slice_get xs i)) ≡ true →
+        (i ≡ place k xs) × (i < length xs)
+    place-found k [] i rises at = absurd (false≢true at)
+    place-found k (x ∷ xs) zero rises at = elim (cases_Bool (is_at k x)) [
+      | inl same ↦
+          let over : is_under k x ≡ false = ap (λ j. below j k) (order.same_is (key x) k same) ∙ order.irreflexive k in
+          (sym (rw over refl), omega arith)
+      | inr other ↦ absurd (true≢false (sym at ∙ rw other refl))
+    ]
+    place-found k (x ∷ xs) (suc i) rises at = elim (cases_Bool (is_under k x)) [
+      | inl under ↦
+          let later = place-found k xs i rises.1 at in
+          (ap suc later.0 ∙ sym (rw (under, one_more (place k xs)) refl), omega (arith, later.1))
+      | inr over ↦ absurd (true≢false (sym at ∙ found-above k xs i (above_when_not_below k x xs over rises.0)))
+    ]
+
     stands_later : (k : K) (x : X) (xs : List X) → is_under k x ≡ true → stands k (x ∷ xs) ≡ true → stands k xs ≡ true
     stands_later k x xs under there = rw (below_is_other (key x) k under) at there
 

@@ -14,3 +14,4 @@ pub use laws::{
 pub use moments::Moments;
 pub use net_base::{Deadline, Kind};
 pub use queue::TimerQueue;
+pub use rows::place_from;

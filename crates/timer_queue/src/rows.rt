@@ -9,7 +9,7 @@ mod edit;
 mod find;
 
 pub use edit::{drop_gone, tree_over};
-pub use find::{place_in, place_of, row_in};
+pub use find::{place_from, place_in, place_of, row_in};
 
 // The moments of one connection's timers. One that has left has none, and its row stays until the rows are packed.
 #[derive(Clone, Copy, PartialEq, Eq)]

@@ -16,6 +16,7 @@ use io_edge::PieceWriter;
 use line_run::{Interpreter, Stop, tell_line};
 use net_base::{ActionList, Event, OutOfMemory};
 use std::alloc::Global;
+use std::mem;
 use stepper::Stepper;
 use trace_text::{HeadLine, Line, LineRefusal, Stage, read_line};
 
@@ -34,6 +35,8 @@ pub(crate) struct Playback<E: Stepper> {
     pub means: Option<E::Means>,
     /// Made at the first event.
     pub engine: Option<E>,
+    /// That of the actions of the last event.
+    pub memory: ActionList,
 }
 
 impl<E: Stepper> Playback<E> {
@@ -47,6 +50,7 @@ impl<E: Stepper> Playback<E> {
             heads: Vec::new(alloc),
             means: Some(means),
             engine: None,
+            memory: ActionList::new(alloc),
         }
     }
 
@@ -93,8 +97,9 @@ impl<E: Stepper> Playback<E> {
         ensures actions { IfOk result (λ actions. actions ≡
             (step (machine_before (kept self.old.stage self.old.heads.items (begun self.old.engine E.machine E.events))) event.now).actions) }
     {
+        let memory = mem::replace(&mut self.memory, ActionList::new(self.alloc));
         if let Some(engine) = &mut self.engine {
-            return engine.step(event);
+            return engine.step(event, memory);
         }
         self.first_step(event)
     }
@@ -114,7 +119,7 @@ impl<E: Stepper> Playback<E> {
             (step (machine_before (kept self.old.stage self.old.heads.items (begun self.old.engine E.machine E.events))) event.now).actions) }
     {
         let mut engine: E = first(self.alloc, self.means.take(), &self.heads)?;
-        let actions = engine.step(event)?;
+        let actions = engine.step(event, ActionList::new(self.alloc))?;
         self.engine = Some(engine);
         Ok(actions)
     }
@@ -131,6 +136,7 @@ impl<E: Stepper> Playback<E> {
         }
         let actions = self.step(event)?;
         tell_line(self.alloc, text, actions.as_slice(), pieces)?;
+        self.memory = actions;
         self.stage.events = true;
         Ok(())
     }

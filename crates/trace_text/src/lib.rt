@@ -5,6 +5,7 @@ mod address;
 mod decimal;
 mod event;
 mod event_text;
+mod front_text;
 mod group_text;
 mod head_text;
 pub mod law;

@@ -1,9 +1,10 @@
 //! What lines are made of, printed behind some bytes. Where memory is wanting the bytes are as they were.
 
-ghost use Rattle.std.specs.Prelude.{◌≡◌, ◌≤◌, ◌<◌, [], ◌∷◌, ◌++◌, length, take, decimal, OnOk, OnErr};
+ghost use Rattle.std.specs.Prelude.{◌≡◌, ◌≤◌, ◌<◌, ◌∷◌, ◌++◌, decimal, OnOk, OnErr};
 ghost use Rattle.hex.specs.Hex.{encode_lower};
 ghost use Rattle.trace_text.specs.Addresses.{printed_address, printed_octets};
 
+use crate::front_text::FrontText;
 use crate::line_text::line_text;
 use crate::lower_hex::encode_lower;
 use crate::text::AddressText;
@@ -65,12 +66,8 @@ pub(crate) fn push_address(
 {
     match address.ip {
         Ip::V4(ip) => {
-            let before = bytes.len();
-            let pushed = push_ipv4(ip, address.port, bytes);
-            if pushed.is_err() {
-                bytes.truncate(before);
-            }
-            pushed
+            bytes.extend_from_slice(ipv4_text(ip, address.port).as_bytes())?;
+            Ok(())
         }
         Ip::V6(_) => push_text_of(alloc, address, bytes),
     }
@@ -87,29 +84,18 @@ fn push_text_of(alloc: Global, address: &Addr, bytes: &mut Vec<u8>) -> Result<()
     Ok(())
 }
 
-// An IPv4 address with its port. A part of it may come where memory is wanting.
-fn push_ipv4(ip: u32, port: u16, bytes: &mut Vec<u8>) -> Result<(), OutOfMemory>
-    ensures ok { OnOk result (bytes.new.items ≡ bytes.old.items ++ (printed_octets ip ++ (58 ∷ decimal port))) }
-    ensures front { take (length bytes.old.items) bytes.new.items ≡ bytes.old.items }
-    ensures more { length bytes.old.items ≤ length bytes.new.items }
-{
-    push_octet(ip / 16_777_216 % 256, b'.', bytes)?;
-    push_octet(ip / 65_536 % 256, b'.', bytes)?;
-    push_octet(ip / 256 % 256, b'.', bytes)?;
-    push_octet(ip % 256, b':', bytes)?;
-    push_number(u64::from(port), bytes)
-}
-
-// An octet and what ends it.
+// An IPv4 address with its port.
 #[inline(always)]
-fn push_octet(octet: u32, end: u8, bytes: &mut Vec<u8>) -> Result<(), OutOfMemory>
-    ensures ok { OnOk result (bytes.new.items ≡ bytes.old.items ++ (decimal octet ++ end ∷ [])) }
-    ensures front { take (length bytes.old.items) bytes.new.items ≡ bytes.old.items }
-    ensures more { length bytes.old.items ≤ length bytes.new.items }
+fn ipv4_text(ip: u32, port: u16) -> FrontText
+    ensures { result ≡ printed_octets ip ++ (58 ∷ decimal port) }
 {
-    push_number(u64::from(octet), bytes)?;
-    bytes.push(end)?;
-    Ok(())
+    let mut text = FrontText::new();
+    text.put_number(u32::from(port));
+    text.put_octet(ip % 256, b':');
+    text.put_octet(ip / 256 % 256, b'.');
+    text.put_octet(ip / 65_536 % 256, b'.');
+    text.put_octet(ip / 16_777_216 % 256, b'.');
+    text
 }
 
 /// Bytes in hexadecimal.

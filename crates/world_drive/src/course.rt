@@ -7,10 +7,11 @@ ghost use Rattle.world_drive.specs.DrillCourse.{StandsAt, counts_joined};
 
 use crate::tallies::{Counts, Tallies};
 use engine_start::{Pickers, first_engine};
-use net_base::{Action, Addr, Event, Ip, OutOfMemory};
+use net_base::{Action, ActionList, Addr, Event, Ip, OutOfMemory};
 use node_engine::Engine;
 use node_world::{Next, TownWorld, World, WorldRefusal};
 use std::alloc::Global;
+use std::mem;
 use trace_meaning::settings_of;
 use trace_text::HeadLine;
 
@@ -26,6 +27,9 @@ pub(crate) struct Course {
     pub world: TownWorld,
     pub engine: Engine,
     pub counts: Counts,
+    alloc: Global,
+    // that of the actions of the last event
+    memory: ActionList,
 }
 
 impl Course {
@@ -39,6 +43,8 @@ impl Course {
             world: TownWorld::new(alloc, seed),
             engine: first_engine(alloc, settings, pickers)?,
             counts: Counts::none(),
+            alloc,
+            memory: ActionList::new(alloc),
         })
     }
 
@@ -50,8 +56,10 @@ impl Course {
         ensures events { OnOk result (self.new.engine.events ≡ self.old.engine.events + 1) }
     {
         let event = next_event(&mut self.world)?;
-        let actions = self.engine.step_in_place(&event)?;
+        let memory = mem::replace(&mut self.memory, ActionList::new(self.alloc));
+        let actions = self.engine.step_in_place(&event, memory)?;
         act_all(actions.as_slice(), &mut self.world, &mut self.counts)?;
+        self.memory = actions;
         Ok(())
     }
 

@@ -268,7 +268,7 @@ fn say<K: Sink>(
 {
     hold_event(event);
     let line = print_event(alloc, event)?;
-    let actions = engine.step_in_place(event)?;
+    let actions = engine.step_in_place(event, ActionList::new(alloc))?;
     tell_line(alloc, line.as_slice(), actions.as_slice(), pieces)?;
     put_pending(pieces, out)?;
     Ok(actions)

@@ -2,7 +2,7 @@ use net_base::{Cid, Kind};
 use std::alloc::Global;
 use std::process::Abort;
 use std::test::Fail;
-use timer_queue::{Moments, TimerQueue};
+use timer_queue::{Moments, TimerQueue, place_from};
 
 type Timer = (u64, Cid, Kind);
 
@@ -266,4 +266,19 @@ const PUT_AT_ONCE: [Step; 11] = [
 #[test]
 fn all_timers_are_put_at_once(rt: HostRuntime) -> Result<(), Fail> {
     run(&rt, rt.alloc(), &PUT_AT_ONCE)
+}
+
+// Of four rows the last is of id 9.
+#[test]
+fn a_row_is_looked_for_before_the_last_one(rt: HostRuntime) {
+    for &(cid, place) in &[
+        (9, Some(3)),
+        (8, Some(2)),
+        (6, Some(0)),
+        (5, None),
+        (10, None),
+    ] {
+        assert!(rt; place_from(4, Cid(9), Cid(cid)) == place, "{cid}");
+    }
+    assert!(rt; place_from(0, Cid(9), Cid(9)) == None);
 }

@@ -138,7 +138,7 @@ fn expect(
     wanted: &[Does],
 ) -> Result<(), Fail> {
     let event = event(alloc, given)?;
-    let actions = advance(engine, &event)?;
+    let actions = advance(alloc, engine, &event)?;
     are_done(rt, alloc, actions.as_slice(), wanted)
 }
 

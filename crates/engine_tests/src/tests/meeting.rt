@@ -84,6 +84,7 @@ fn is_local(alloc: Global, other: Addr) -> Result<Event, OutOfMemory>
 // A node, and the address of the one that it is to meet.
 #[derive(Drop)]
 struct Node {
+    alloc: Global,
     engine: Engine,
     other: Addr,
 }
@@ -125,7 +126,7 @@ fn step<W: World>(node: &mut Node, event: &Event, world: &mut W) -> Result<(), F
     requires within { IsWithinLimits event.now }
     ensures { W.is_open world.new ≡ true }
 {
-    let actions = advance(&mut node.engine, event)?;
+    let actions = advance(node.alloc, &mut node.engine, event)?;
     do_all(world, actions.as_slice())
 }
 
@@ -208,7 +209,11 @@ fn two_nodes_meet(rt: HostRuntime) -> Result<(), Fail> {
         let Ok(engine) = Engine::new(alloc, settings_of(own), picker, ranked) else {
             return Err("no engine".into());
         };
-        nodes.push(Node { engine, other })?;
+        nodes.push(Node {
+            alloc,
+            engine,
+            other,
+        })?;
     }
     let (Some(mut right), Some(mut left)) = (nodes.pop(), nodes.pop()) else {
         return Err("no pair".into());

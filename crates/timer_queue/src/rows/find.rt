@@ -1,4 +1,4 @@
-ghost use Rattle.std.specs.Prelude.{◌≡◌, ◌≤◌, true, is_some, length, option_map, slice_get};
+ghost use Rattle.std.specs.Prelude.{◌≡◌, ◌≤◌, ◌<◌, ◌+◌, true, is_some, IfSome, length, option_map, slice_get};
 ghost use Rattle.std.specs.Bool.{then_some};
 ghost use Rattle.timer_queue.specs.Kept.{AreRising};
 ghost use Rattle.timer_queue.specs.Rows.{row_at, found_at, place_at};
@@ -15,7 +15,34 @@ pub fn place_of(rows: &[Row], cid: Cid) -> usize
     if is_behind(rows, cid) {
         return rows.len();
     }
-    rows.partition_point(|row| row.cid < cid)
+    match place_by_last(rows, cid) {
+        Some(place) => place,
+        None => rows.partition_point(|row| row.cid < cid),
+    }
+}
+
+// The same of an id that has a row, where each id between it and the last one has.
+fn place_by_last(rows: &[Row], cid: Cid) -> Option<usize>
+    requires { AreRising rows.now }
+    ensures { IfSome result (λ place. place ≡ place_at cid rows.now × place < length rows.now) }
+{
+    let last = rows.last()?;
+    let place = place_from(rows.len(), last.cid, cid)?;
+    if is_at(rows, place, cid) {
+        Some(place)
+    } else {
+        None
+    }
+}
+
+/// Where the row of an id stands among so many in order of id, if it is not behind the last one, whose id is told, and each id
+/// between the two has a row, as most have that came of late. A guess, to be looked at before a search.
+#[inline(always)]
+pub fn place_from(count: usize, last: Cid, cid: Cid) -> Option<usize>
+    ensures { IfSome result (λ place. place + 1 + last.0 ≡ count + cid.0) }
+{
+    let between = last.0.checked_sub(cid.0)? as usize;
+    count.checked_sub(1)?.checked_sub(between)
 }
 
 // Whether an id is above all. Ids rise, so one that comes is.

@@ -5,8 +5,8 @@ use Rattle.timer_queue.proofs.Orders.{cid_order}
 use Rattle.timer_queue.proofs.Rising.{is_under, partitioned, place_is}
 use Rattle.prune_order.proofs.leaf.place_of.Goals as goal
 
-pub returns-clause-value : goal.returns-clause-value
-returns-clause-value c =
+pub returns-in-None-clause-value : goal.returns-in-None-clause-value
+returns-in-None-clause-value c =
     let p = is_under cid_below same_cid cid_order (λ l. l.cid) c.args.cid in
     place_is p c.args.leaves.now c.partition_point.result c.partition_point.ensures.bound
     (IsPartitionPoint-from_clause p c.args.leaves.now c.partition_point.result c.partition_point.ensures.partitioned
