@@ -23,6 +23,9 @@ use trace_text::{HeadLine, Line, LineRefusal, Stage, read_line};
 // How many events a trace may have.
 const EVENTS_MOST: u64 = 1_000_000;
 
+// The memory of so many actions is kept for those of the next event.
+const FEW_ACTIONS: usize = 64;
+
 /// What is kept of the lines of a trace that were read. Once a line decides, or memory is wanting, nothing more may be
 /// asked of it.
 #[derive(Drop)]
@@ -35,7 +38,7 @@ pub(crate) struct Playback<E: Stepper> {
     pub means: Option<E::Means>,
     /// Made at the first event.
     pub engine: Option<E>,
-    /// That of the actions of the last event.
+    /// That of the actions of the last event, where they were few.
     pub memory: ActionList,
 }
 
@@ -136,7 +139,7 @@ impl<E: Stepper> Playback<E> {
         }
         let actions = self.step(event)?;
         tell_line(self.alloc, text, actions.as_slice(), pieces)?;
-        self.memory = actions;
+        self.memory = memory_of(self.alloc, actions);
         self.stage.events = true;
         Ok(())
     }
@@ -198,4 +201,12 @@ fn read(alloc: Global, stage: &Stage, text: &[u8]) -> Result<Line, LineRefusal>
     ensures within { IfOk result IsLineWithin }
 {
     read_line(alloc, stage, text)
+}
+
+// The memory of few actions. An event with many holds none behind it.
+fn memory_of(alloc: Global, actions: ActionList) -> ActionList {
+    if actions.as_slice().len() > FEW_ACTIONS {
+        return ActionList::new(alloc);
+    }
+    actions
 }
