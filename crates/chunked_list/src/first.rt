@@ -24,7 +24,7 @@ pub fn lower(firsts: &mut [usize], from: usize)
 }
 
 // How many chunks begin at a place of the list or before it. The last one is looked at first, and then the one where the place
-// would be if all had as many items.
+// would be if all had as many items. A guess that is wrong, as where the product wraps, is seen to be.
 pub fn begun_by(firsts: &[usize], place: usize) -> usize
     requires { 0 < length firsts.now }
     ensures bound { result ≤ length firsts.now }

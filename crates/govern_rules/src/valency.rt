@@ -129,15 +129,13 @@ fn number_of(valency: Valency, group: &Group, links: &LinkList, book: &PeerBook)
     let members = group.members.as_slice();
     match valency {
         Valency::WarmUp => {
-            missing_among(
-                group.warm,
-                Status::EstablishedOrPending,
-                members,
-                links,
-                book,
-            )
+            let status = Status::EstablishedOrPending;
+            missing_among(group.warm, status, members, links, book)
         }
-        Valency::HotUp => { missing_among(group.hot, Status::HotOrOwesOn2, members, links, book) }
+        Valency::HotUp => {
+            let status = Status::HotOrOwesOn2;
+            missing_among(group.hot, status, members, links, book)
+        }
         Valency::HotDown => {
             let hot = count_among(Status::Hot, members, links, book);
             hot.saturating_sub(group.hot)
