@@ -5,6 +5,7 @@ ghost use Rattle.conn_state.specs.Use.{is_negotiated, runs};
 ghost use Rattle.machine.specs.Talking.{served_peers, replies, serves, asked_as, talks};
 ghost use Rattle.mux_segment.specs.Lent.{lent};
 ghost use Rattle.node_engine.specs.State.{DoesTo, IsKnown};
+ghost use Rattle.remote_watch.specs.declared.reply.Reply.TheVariants.{Nothing};
 
 use crate::NodeState;
 use conn_state::facts::{is_sharing, serves_remote};
@@ -119,6 +120,24 @@ impl NodeState {
         if matches!(reply, Reply::Nothing) {
             return Ok(());
         }
+        self.send_reply(facts, protocol, reply, actions)
+    }
+
+    // Most of what comes in has no reply, so this stands apart.
+    #[inline(never)]
+    fn send_reply(
+        &mut self,
+        facts: &Facts,
+        protocol: u16,
+        reply: Reply,
+        actions: &mut ActionList,
+    ) -> Result<(), OutOfMemory>
+        requires some { ¬ (reply ≡ Nothing) }
+        requires known { IsKnown facts.now self.old }
+        requires responder { has_responder protocol ≡ true }
+        ensures does { OnOk result (DoesTo facts.now.cid.0 (replies reply protocol) actions.old self.old self.new actions.new) }
+        ensures same { OnOk result (self.new ≡ self.old) }
+    {
         let peers = self.served_peers(reply, facts.addr)?;
         let bytes = reply_bytes(self.alloc, &reply, peers.as_slice())?;
         self.send(facts.cid, RESPONDER, protocol, bytes.as_slice(), actions)
