@@ -1,4 +1,4 @@
-ghost use Rattle.std.specs.Prelude.{◌≡◌, ◌+◌, ◌++◌, ◌∷◌, ◌<◌, ◌^◌, [], length, Some, None, OnOk, OnErr, IsSome, IsSomeAnd, slice_get, ℕ, if◌then◌else◌};
+ghost use Rattle.std.specs.Prelude.{◌≡◌, ◌+◌, ◌++◌, ◌∷◌, ◌<◌, ◌^◌, [], length, Some, None, OnOk, OnErr, IsSome, IsSomeAnd, IfSome, slice_get, ℕ, if◌then◌else◌};
 ghost use Rattle.std.specs.Option.{option_copied, option_map};
 ghost use Rattle.conn_state.specs.State.{facts_of};
 ghost use Rattle.conn_state.specs.Use.{facts_at, live_at};
@@ -164,9 +164,35 @@ impl Roster {
     {
         match self.recent {
             Some(recent) if recent.cid == cid => recent.place,
-            _ => self
+            _ => self.place_by_id(cid),
+        }
+    }
+
+    // The same of one that was not looked for last.
+    fn place_by_id(&self, cid: Cid) -> usize
+        requires { IsKept self.now }
+        ensures { result ≡ id_place cid.0 (facts_kept self.now) }
+    {
+        match self.place_by_last(cid) {
+            Some(place) => place,
+            None => self
                 .states
                 .partition_point(|state| state.as_facts().cid < cid),
+        }
+    }
+
+    // The same of a connection from which on no id up to the last one is missing, as most are that came of late.
+    fn place_by_last(&self, cid: Cid) -> Option<usize>
+        requires { IsKept self.now }
+        ensures { IfSome result (λ place. place ≡ id_place cid.0 (facts_kept self.now)) }
+    {
+        let end = self.states.len().checked_sub(1)?;
+        let behind = self.at(end).cid.0.checked_sub(cid.0)? as usize;
+        let place = end.checked_sub(behind)?;
+        if self.at(place).cid == cid {
+            Some(place)
+        } else {
+            None
         }
     }
 

@@ -63,6 +63,7 @@ impl Kept {
     }
 
     // What the rules see of a connection that stands at a place.
+    #[inline(always)]
     pub fn sight(&self, cid: Cid, place: usize) -> Sight
         requires whole { IsWhole self.now }
         requires place { place ≡ id_place cid.0 (facts_kept self.now.roster) }
@@ -76,6 +77,7 @@ impl Kept {
 
     // The deadlines of a connection are its timers, and what the rules see of it is its link. Most moves leave what was seen of
     // it before, and then no link is looked for.
+    #[inline(always)]
     pub fn follow(
         &self,
         cid: Cid,

@@ -160,6 +160,7 @@ fn take_out(talks: &mut ChunkedList<Talk>, place: usize, alloc: Global) -> Talk
 }
 
 // Puts one at a place, over the fresh one.
+#[inline(always)]
 fn put_back(talks: &mut ChunkedList<Talk>, place: usize, talk: Talk)
     requires { place < length talks.old }
     ensures { talks.new ≡ set talks.old place talk }

@@ -12,6 +12,7 @@ use net_base::{Facts, Grace, Phase};
 use timer_queue::{Moments, TimerQueue};
 
 // The deadlines of a connection are its timers, in place of those that it had.
+#[inline(always)]
 pub fn retime(timers: &mut TimerQueue, facts: &Facts, replies: &Replies)
     requires { IsTrue (is_enrolled facts.now.cid timers.old) }
     ensures enrolled { timers.new.enrolled ≡ timers.old.enrolled }

@@ -92,6 +92,7 @@ pub fn start_of(links: &ChunkedList<Link>, addr: &Addr) -> usize
 }
 
 // Some of the links from a place on that have an address has a mark. None of them has an address below it.
+#[inline(always)]
 pub fn some_from(links: &ChunkedList<Link>, start: usize, addr: &Addr, mark: Mark) -> bool
     requires ordered { IsInOrder links.now }
     requires above { AreNotBelow addr.now (drop start links.now) }

@@ -10,6 +10,7 @@ use crate::task::Task;
 use peer_book::PeerBook;
 
 // How many orders a rule by the targets gives at most.
+#[inline(always)]
 pub fn number_of(task: Task, big: bool, view: &View, book: &PeerBook) -> u64
     ensures { result ≡ number_of task big view.now book.now }
 {

@@ -91,6 +91,7 @@ fn is_free_alone(task: Task) -> bool
 }
 
 // The same where so many links have an address below it.
+#[inline(always)]
 fn is_free_at(task: Task, links: &LinkList, start: usize, addr: &Addr) -> bool
     requires { start ≡ prefix_len (is_below addr.now) links.now }
     ensures { result ≡ is_free task (say (links_of addr.now links.now)) }

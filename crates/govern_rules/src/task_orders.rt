@@ -16,6 +16,7 @@ use std::alloc::Global;
 
 // The orders of a rule by the targets for ordinary peers. Where nobody has the temperature that is asked for, nothing is
 // counted; where none is wanted, no peer is looked at.
+#[inline(always)]
 pub fn ordinary_task(
     alloc: Global,
     task: Task,

@@ -33,6 +33,7 @@ pub enum Valency {
 
 // The orders for all groups, one group after the other, behind other orders. Where nobody is known, or nobody has the
 // temperature that is asked for, no group is looked at.
+#[inline(always)]
 pub fn groups_orders(
     alloc: Global,
     valency: Valency,
@@ -72,6 +73,7 @@ fn look_up(alloc: Global, addrs: &[Addr], book: &PeerBook) -> Result<Vec<Peer>, 
 }
 
 // Where a group has its valency its members are counted and nothing more.
+#[inline(always)]
 fn group_orders(
     alloc: Global,
     valency: Valency,
@@ -145,6 +147,7 @@ fn number_of(valency: Valency, group: &Group, links: &LinkList, book: &PeerBook)
 
 // How many of those that are wanted are missing among ordinary peers with some addresses that have a status. Once none is, the
 // others are not looked at.
+#[inline(always)]
 fn missing_among(
     wanted: u64,
     status: Status,

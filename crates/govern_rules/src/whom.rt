@@ -16,6 +16,7 @@ pub enum Whom<'a> {
 impl Whom<'_> {
     ghost use Rattle.govern_rules.specs.Whom.{is_meant};
 
+    #[inline(always)]
     pub fn is_meant(&self, addr: &Addr) -> bool
         ensures { result ≡ is_meant self.now addr.now }
     {

@@ -106,10 +106,7 @@ impl Engine {
                 self.events += 1;
                 Ok(actions)
             }
-            Err(OutOfMemory) => {
-                self.machine.forget();
-                Err(OutOfMemory)
-            }
+            Err(OutOfMemory) => Err(OutOfMemory),
         }
     }
 

@@ -1,4 +1,4 @@
-ghost use Rattle.std.specs.Prelude.{◌≡◌, ◌≤◌, ◌+◌, ◌^◌, [], OnOk, IfOk};
+ghost use Rattle.std.specs.Prelude.{◌≡◌, ◌≤◌, ◌+◌, ◌^◌, [], OnOk, OnErr, IfOk};
 ghost use Rattle.laws.specs.Steady.{IsSteady};
 ghost use Rattle.machine.specs.Step.{step};
 ghost use Rattle.net_base.specs.Limits.{IsWithinLimits};
@@ -55,7 +55,8 @@ impl HeldState {
         ActionList::new(self.alloc)
     }
 
-    /// What happens to the node, and what it does about it. The actions stand in memory that is given.
+    /// What happens to the node, and what it does about it. The actions stand in memory that is given. On a refusal all that is
+    /// known is given up.
     pub(crate) fn handle(
         &mut self,
         event: &Event,
@@ -69,25 +70,18 @@ impl HeldState {
         requires within { IsWithinLimits event.now }
         ensures machine { OnOk result (self.new ≡ (step self.old event.now).machine) }
         ensures actions { IfOk result (λ actions. actions ≡ (step self.old event.now).actions) }
+        ensures given_up { OnErr result (self.new ≡ blank) }
     {
-        let mut actions = cleared(memory);
-        self.state.respond(event, picker, ranked, &mut actions)?;
-        Ok(actions)
+        // the items of that list go, and its memory stays
+        let mut items = memory.into_vec();
+        items.clear();
+        let mut actions = ActionList::from_vec(items);
+        match self.state.respond(event, picker, ranked, &mut actions) {
+            Ok(()) => Ok(actions),
+            Err(OutOfMemory) => {
+                self.state.forget();
+                Err(OutOfMemory)
+            }
+        }
     }
-
-    /// All that is known is given up.
-    pub(crate) fn forget(&mut self)
-        ensures { self.new ≡ blank }
-    {
-        self.state.forget();
-    }
-}
-
-// A list without its items, of which it keeps the memory.
-fn cleared(list: ActionList) -> ActionList
-    ensures { result ≡ [] }
-{
-    let mut items = list.into_vec();
-    items.clear();
-    ActionList::from_vec(items)
 }

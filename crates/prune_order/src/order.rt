@@ -115,6 +115,7 @@ impl PruneOrder {
 }
 
 // A connection that came stands otherwise.
+#[inline(always)]
 fn put(leaves: &mut Vec<Leaf>, keys: &mut LeastTree, cid: Cid, standing: Standing)
     requires rise { AreRising leaves.old.items }
     requires fit { length leaves.old.items ≤ length keys.old }

@@ -157,6 +157,7 @@ impl Kept {
     }
 
     // Puts a row in the place of the one of its id. Where its first timer is the same, the tree stays.
+    #[inline(always)]
     fn put_row(&mut self, place: usize, row: Row)
         requires kept { IsKept self.old }
         requires there { is_some (row_at row.cid self.old.rows.items) ≡ true }

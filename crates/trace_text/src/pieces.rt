@@ -122,6 +122,7 @@ impl<'a> Pieces<'a> {
 }
 
 /// What stands before and after the first separator, where there is one.
+#[inline(always)]
 pub fn cut_once(bytes: &[u8], separator: u8) -> Option<(&[u8], &[u8])>
     ensures { option_map (λ parts. (parts.0.now, parts.1.now)) result ≡ cut_at separator bytes.now }
 {

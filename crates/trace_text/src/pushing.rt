@@ -56,6 +56,7 @@ pub fn push_text(word: &str, bytes: &mut Vec<u8>) -> Result<(), OutOfMemory>
 }
 
 /// An address.
+#[inline(always)]
 pub(crate) fn push_address(
     alloc: Global,
     address: &Addr,

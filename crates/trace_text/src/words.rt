@@ -147,6 +147,7 @@ impl<'a> Words<'a> {
     }
 
     /// The bytes of one read of a socket.
+    #[inline(always)]
     pub fn piece(&mut self, alloc: Global) -> Result<Octets, LineRefusal>
         ensures { GivesIfRoom (λ bytes. bytes) result self.new (next_read piece_of BadWord self.old) }
     {

@@ -96,6 +96,7 @@ impl Connections {
     }
 
     // One more connection, under the next id, of which nothing is read or owed yet. A refusal changes nothing.
+    #[inline(always)]
     fn enter(&mut self, state: ConnState) -> Result<(), OutOfMemory>
         requires next { (facts_of state).cid.0 ≡ self.old.next_id }
         requires few { self.old.next_id ≤ 2 ^ 48 }

@@ -30,17 +30,10 @@ impl NodeState {
         requires { IsOrderly self.old }
         ensures { OnOk result (Does (fire_all self.old) actions.old self.new actions.new) }
     {
-        while let Some(deadline) = self.due() {
+        while let Some(deadline) = self.connections.due(self.moment) {
             self.fire(deadline, actions)?;
         }
         Ok(())
-    }
-
-    // The deadline that fires next.
-    fn due(&self) -> Option<Deadline>
-        ensures { result ≡ due self.now }
-    {
-        self.connections.due(self.moment)
     }
 
     // The deadline fires that is the next one, by its kind.

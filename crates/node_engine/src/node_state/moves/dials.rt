@@ -1,11 +1,9 @@
 ghost use Rattle.std.specs.Prelude.{◌≡◌, ◌≤◌, ◌^◌, true, false, OnOk};
 ghost use Rattle.conn_state.specs.Use.{is_dialing};
 ghost use Rattle.conn_table.specs.Answers.{any_at};
-ghost use Rattle.hs_decide.specs.Answers.{proposal_of};
-ghost use Rattle.machine.specs.Own.{own_info};
 ghost use Rattle.machine.specs.Connections.{dial, dial_opens};
 ghost use Rattle.machine.specs.Machine.{facts_of};
-ghost use Rattle.node_engine.specs.State.{Does, DoesTo, IsKnown, sends_from};
+ghost use Rattle.node_engine.specs.State.{Does, DoesTo, IsKnown};
 
 use crate::NodeState;
 use crate::own::own_info;
@@ -13,7 +11,7 @@ use conn_table::Step;
 use hs_decide::proposal;
 use mux_segment::INITIATOR;
 use net_base::protocol::HANDSHAKE;
-use net_base::{Action, ActionList, Addr, Cid, Facts, OutOfMemory, StateName};
+use net_base::{Action, ActionList, Addr, Facts, OutOfMemory, StateName};
 
 impl NodeState {
     /// An address is dialed, under the next id.
@@ -39,15 +37,7 @@ impl NodeState {
     {
         let until = self.moment + self.connections.settings().handshake;
         self.turn(facts, Step::Connected(until), actions)?;
-        self.propose(facts.cid, actions)
-    }
-
-    // This node's proposal.
-    fn propose(&self, cid: Cid, actions: &mut ActionList) -> Result<(), OutOfMemory>
-        ensures { OnOk result (Does (sends_from 0 cid 0 (proposal_of (own_info self.now.settings)) self.now)
-            actions.old self.now actions.new) }
-    {
         let payload = proposal(self.alloc, &own_info(self.connections.settings()))?;
-        self.send(cid, INITIATOR, HANDSHAKE, payload.as_slice(), actions)
+        self.send(facts.cid, INITIATOR, HANDSHAKE, payload.as_slice(), actions)
     }
 }

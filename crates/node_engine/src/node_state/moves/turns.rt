@@ -4,7 +4,7 @@ ghost use Rattle.connections.specs.Steps.{stepped};
 ghost use Rattle.machine.specs.Connections.{entry_turns};
 ghost use Rattle.machine.specs.Machine.{entry_at};
 ghost use Rattle.machine.specs.Replies.{owing, paid, is_owed_on};
-ghost use Rattle.node_engine.specs.State.{DoesSilently, DoesTo, IsKnown, name_notice, told_name};
+ghost use Rattle.node_engine.specs.State.{DoesSilently, DoesTo, IsKnown, told_name};
 
 use crate::NodeState;
 use conn_state::names::name_of;
@@ -52,22 +52,14 @@ impl NodeState {
     {
         self.connections.pay(cid, protocol);
     }
-
-    /// A connection has turned: its name is told, where it is another one than before.
-    pub(crate) fn tell_turn(&self, old: &Facts, actions: &mut ActionList) -> Result<(), OutOfMemory>
-        requires { IsSome (entry_at old.now.cid.0 self.now) }
-        ensures { OnOk result (IfSome (entry_at old.now.cid.0 self.now)
-            (λ e. actions.new ≡ actions.old ++ name_notice old.now e.facts)) }
-    {
-        match self.connections.facts(old.cid) {
-            Some(new) => tell_name(old, name_of(new), actions),
-            None => unreachable!(),
-        }
-    }
 }
 
-// The name of a connection is told where it is another one than before.
-fn tell_name(old: &Facts, name: StateName, actions: &mut ActionList) -> Result<(), OutOfMemory>
+/// The name of a connection is told where it is another one than before.
+pub(crate) fn tell_name(
+    old: &Facts,
+    name: StateName,
+    actions: &mut ActionList,
+) -> Result<(), OutOfMemory>
     ensures { OnOk result (actions.new ≡ actions.old ++ told_name old.now name) }
 {
     if name_of(old) == name {

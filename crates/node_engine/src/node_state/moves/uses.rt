@@ -1,4 +1,5 @@
-ghost use Rattle.std.specs.Prelude.{◌≡◌, true, false, IsSome, OnOk};
+ghost use Rattle.std.specs.Prelude.{◌≡◌, true, false, IsSome, IfSome, OnOk};
+ghost use Rattle.conn_state.specs.Names.{name_of};
 ghost use Rattle.conn_state.specs.Protocols.{has_responder};
 ghost use Rattle.conn_table.specs.Conditions.{CanAwake, CanStep, after_step};
 ghost use Rattle.machine.specs.Connections.{is_used, says_done, release, awake};
@@ -8,12 +9,13 @@ ghost use Rattle.connections.specs.Steps.{closes};
 ghost use Rattle.node_engine.specs.State.{Does, DoesTo, IsKnown, is_used_from};
 ghost use Rattle.warm_messages.specs.Writing.{written_alive};
 
+use super::turns::tell_name;
 use crate::NodeState;
 use conn_state::facts::is_sharing;
 use conn_table::Step;
 use mux_segment::INITIATOR;
 use net_base::protocol::{KEEP_ALIVE, PEER_SHARING};
-use net_base::{ActionList, Cid, Facts, OutOfMemory, Temp};
+use net_base::{ActionList, Cid, Facts, OutOfMemory, StateName, Temp};
 use warm_messages::{Alive, SHARE_DONE, write_alive};
 
 impl NodeState {
@@ -29,8 +31,8 @@ impl NodeState {
         requires stays { closes step facts.now ≡ false }
         ensures { OnOk result (DoesTo facts.now.cid.0 (λ e. is_used (after_step step e.facts) e) actions.old self.old self.new actions.new) }
     {
-        self.connections.turn(facts.cid, step);
-        self.greet_use(facts, actions)
+        let name = self.connections.turn(facts.cid, step);
+        self.greet_use(facts, name, actions)
     }
 
     /// This node gives a connection out of its use.
@@ -66,14 +68,20 @@ impl NodeState {
         self.trim(facts.cid, actions)
     }
 
-    // A connection has come into this node's use: its name is told, its peer is warm, and a keep-alive is sent, to
+    // A connection has come into this node's use under a name: that is told, its peer is warm, and a keep-alive is sent, to
     // which a reply is owed.
-    fn greet_use(&mut self, before: &Facts, actions: &mut ActionList) -> Result<(), OutOfMemory>
-        requires { IsSome (entry_at before.now.cid.0 self.old) }
+    fn greet_use(
+        &mut self,
+        before: &Facts,
+        name: StateName,
+        actions: &mut ActionList,
+    ) -> Result<(), OutOfMemory>
+        requires there { IsSome (entry_at before.now.cid.0 self.old) }
+        requires name { IfSome (entry_at before.now.cid.0 self.old) (λ e. name ≡ name_of e.facts) }
         ensures { OnOk result (DoesTo before.now.cid.0 (is_used_from before.now) actions.old self.old self.new actions.new) }
     {
         let cookie = (before.cid.0 % 65_536) as u16;
-        self.tell_turn(before, actions)?;
+        tell_name(before, name, actions)?;
         self.owe(before.cid, KEEP_ALIVE, u64::from(cookie));
         self.peer_succeeds(before.addr, actions)?;
         self.keep_alive(before.cid, Alive::Ask(cookie), actions)

@@ -1,4 +1,4 @@
-use Rattle.std.proofs.Common.{◌≡◌, ◌+◌, ◌≤◌, ◌<◌, Some, ◌∙◌, sym, subst, arith}
+use Rattle.std.proofs.Common.{◌≡◌, ◌+◌, ◌≤◌, ◌<◌, Some, ◌∙◌, ap, sym, subst, arith}
 use Rattle.laws.specs.Sound.{IsOrderly}
 use Rattle.laws.proofs.Counts.{late_in}
 use Rattle.laws.proofs.Firing.{fires-lowers}
@@ -12,13 +12,13 @@ loop-deadline-init c = record { so_far = IsFiring-none c.args.self.now c.args.ac
 pub loop-deadline-preserved : goal.loop-deadline-preserved
 loop-deadline-preserved c = record {
   so_far = IsFiring-more _ _ _ _ c.in-Some.deadline _ _ c.loop-deadline.invariant.orderly c.loop-deadline.invariant.so_far
-      (sym c.due.ensures ∙ c.in-Some.is) c.in_ok-fire.ensures;
+      (sym (c.due.ensures ∙ ap due c.self.view_is) ∙ c.in-Some.is) c.in_ok-fire.ensures;
   orderly = subst IsOrderly (sym c.in_ok-fire.ensures.machine_is) (fires-lowers c.in-Some.deadline _ c.loop-deadline.invariant.orderly).orderly;
 }
 
 pub loop-deadline-smaller : goal.loop-deadline-smaller
 loop-deadline-smaller c =
-    let next : due c.loop-deadline.self ≡ Some c.in-Some.deadline = sym c.due.ensures ∙ c.in-Some.is in
+    let next : due c.loop-deadline.self ≡ Some c.in-Some.deadline = sym (c.due.ensures ∙ ap due c.self.view_is) ∙ c.in-Some.is in
     let fewer : late_in c.fire.new.self + 1 ≤ late_in c.loop-deadline.self =
     fires-fewer c.loop-deadline.self c.loop-deadline.actions c.in-Some.deadline c.fire.new.self c.fire.new.actions
     c.loop-deadline.invariant.orderly next c.in_ok-fire.ensures in
@@ -26,4 +26,4 @@ loop-deadline-smaller c =
     less
 
 pub returns : goal.returns
-returns c = Does-when_none _ _ _ _ c.loop-deadline.invariant.so_far (sym c.due.ensures ∙ c.in_default.is)
+returns c = Does-when_none _ _ _ _ c.loop-deadline.invariant.so_far (sym (c.due.ensures ∙ ap due c.self.view_is) ∙ c.in_default.is)
