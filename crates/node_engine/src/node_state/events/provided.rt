@@ -8,6 +8,7 @@ use net_base::{ActionList, Addr, GroupList, OutOfMemory};
 
 impl NodeState {
     /// The local groups are set. Each member is an ordinary peer of the book.
+    #[inline(never)]
     pub(crate) fn locals_are(
         &mut self,
         groups: &GroupList,
@@ -21,6 +22,7 @@ impl NodeState {
     }
 
     /// Big ledger peers are made known.
+    #[inline(never)]
     pub(crate) fn bigs_are(
         &mut self,
         addrs: &[Addr],

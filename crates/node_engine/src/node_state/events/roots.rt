@@ -10,6 +10,7 @@ use net_base::{ActionList, Job, OutOfMemory, RootAnswer};
 impl NodeState {
     /// A question for public root peers is answered. An answer counts only where its question is pending; the public roots
     /// that are found come into the book.
+    #[inline(never)]
     pub(crate) fn roots_answer(
         &mut self,
         job: Job,
