@@ -1,7 +1,9 @@
 ghost use Rattle.std.specs.Prelude.{◌≡◌, ◌+◌, ◌-◌, ◌<◌, ◌≤◌, ◌^◌, ◌∷◌, [], ◌++◌, true, length, slice_index_or, slice_set, OnOk, OnErr, IfOk, IfSome};
 ghost use Rattle.std.specs.List.{insert, remove};
+ghost use Rattle.chunked_list.specs.Changes.{IsChangedAt};
 ghost use Rattle.chunked_list.specs.Chunks.{items_in, joined, starts, AreChunks, AreFilled, CanJoin, IsInside, HasRoom, IsSplit, place_of};
 
+use crate::change::Change;
 use crate::chunk::{Chunk, HALF, JOINED, LIMIT};
 use crate::first::{lower, raise};
 use crate::spot::{Spot, halved, spot_of};
@@ -253,4 +255,20 @@ pub fn remove_at<T: Drop>(chunks: &mut Vec<Chunk<T>>, firsts: &mut Vec<usize>, p
     join_next(chunks, firsts, spot.chunk);
     join_next(chunks, firsts, spot.chunk.saturating_sub(1));
     item
+}
+
+// Does something to the item at a spot, where it stands.
+pub fn change_in<T: Drop, C: Change<T>>(
+    chunks: &mut Vec<Chunk<T>>,
+    spot: Spot,
+    change: C,
+) -> C::Answer
+    requires filled { AreFilled chunks.old.items }
+    requires inside { IsInside chunks.old.items spot }
+    requires may { (d : T) → C.may change (slice_index_or (joined chunks.old.items) (place_of chunks.old.items spot) d) }
+    ensures filled { AreFilled chunks.new.items }
+    ensures numbers { starts 0 chunks.new.items ≡ starts 0 chunks.old.items }
+    ensures changed { IsChangedAt (λ x y. C.does change x y result) (place_of chunks.old.items spot) (joined chunks.old.items) (joined chunks.new.items) }
+{
+    change.apply(&mut chunks[spot.chunk].items[spot.at])
 }

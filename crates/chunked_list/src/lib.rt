@@ -1,6 +1,7 @@
 //! A list in chunks: an item that is put in or taken out moves no more than a chunk of the others.
 #![tactic(auto)]
 
+mod change;
 mod chunk;
 mod edit;
 mod first;
@@ -9,4 +10,5 @@ mod point;
 mod search;
 mod spot;
 
+pub use change::Change;
 pub use list::ChunkedList;

@@ -3,9 +3,11 @@ ghost use Rattle.std.specs.Fn.{ComputesKey};
 ghost use Rattle.std.specs.List.{insert, remove};
 ghost use Rattle.std.specs.List.Sorted.{IsPartitionedBy, IsPartitionPoint};
 ghost use Rattle.std.specs.Option.{option_copied};
+ghost use Rattle.chunked_list.specs.Changes.{IsChangedAt};
 
+use crate::change::Change;
 use crate::chunk::Chunk;
-use crate::edit::{exchange, insert_at, remove_at};
+use crate::edit::{change_in, exchange, insert_at, remove_at};
 use crate::search::point_in;
 use crate::spot::{run_at, spot_of};
 use net_base::OutOfMemory;
@@ -167,5 +169,15 @@ impl<T: Drop> ChunkedList<T> {
     {
         let spot = spot_of(&self.chunks, &self.firsts, place);
         exchange(&mut self.chunks, spot, item)
+    }
+
+    /// Does something to the item at a place, where it stands. Takes no memory.
+    pub fn change<C: Change<T>>(&mut self, place: usize, change: C) -> C::Answer
+        requires inside { place < length self.old }
+        requires may { (d : T) → C.may change (slice_index_or self.old place d) }
+        ensures { IsChangedAt (λ x y. C.does change x y result) place self.old self.new }
+    {
+        let spot = spot_of(&self.chunks, &self.firsts, place);
+        change_in(&mut self.chunks, spot, change)
     }
 }

@@ -44,7 +44,7 @@ place_inside xs place f at = omega (arith, slice_get_within (map facts_of xs) pl
 is_facts : (x : ConnState) (f : Facts) → option_map facts_of (Some x) ≡ Some f → facts_of x ≡ f
 is_facts x f h = cc
 
-state_there : (xs : List ConnState) (place : ℕ) (f : Facts) (d : ConnState) → slice_get (map facts_of xs) place ≡ Some f →
+pub state_there : (xs : List ConnState) (place : ℕ) (f : Facts) (d : ConnState) → slice_get (map facts_of xs) place ≡ Some f →
     facts_of (get_or xs place d) ≡ f
 state_there xs place f d at =
     is_facts (get_or xs place d) f (

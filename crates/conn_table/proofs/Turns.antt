@@ -12,17 +12,6 @@ use Rattle.conn_table.proofs.Lives.{length-rise}
 abbrev pub one_if : Bool → ℕ
 one_if b = cond b 1 0
 
-set-set : {X : Type 0} (xs : List X) (k : ℕ) (a b : X) → set (set xs k a) k b ≡ set xs k b
-set-set [] k a b = refl
-set-set (x ∷ xs) zero a b = refl
-set-set (x ∷ xs) (suc k) a b = ap (λ l. x ∷ l) (set-set xs k a b)
-
--- a spare stood at the place on the way
-pub map-set_twice : (xs : List ConnState) (k : ℕ) (a b : ConnState) → map facts_of (set (set xs k a) k b) ≡ set (map facts_of xs) k (facts_of b)
-map-set_twice xs k a b =
-    map-set facts_of (set xs k a) k b
-    ∙ (ap (λ l. set l k (facts_of b)) (map-set facts_of xs k a) ∙ set-set (map facts_of xs) k (facts_of a) (facts_of b))
-
 pub map-remove : (xs : List ConnState) (k : ℕ) → k < length xs → map facts_of (remove xs k) ≡ remove (map facts_of xs) k
 map-remove [] k inside = absurd (omega (arith, inside))
 map-remove (x ∷ xs) zero inside = refl

@@ -6,3 +6,4 @@ pub mod Finds
 pub mod Index
 pub mod Rosters
 pub mod Table
+pub mod Turned

@@ -7,12 +7,12 @@ ghost use Rattle.conn_table.specs.Index.{placed_of};
 ghost use Rattle.conn_table.specs.Finds.{id_place, newest, found_with, StandsAt};
 ghost use Rattle.conn_table.specs.Table.{moved_at, without_at};
 
-use crate::step::{Step, stepped};
+use crate::step::{Step, Turned};
 use crate::{Placed, Recent};
 use chunked_list::ChunkedList;
+use conn_state::ConnState;
 use conn_state::facts::{is_counted, is_live};
-use conn_state::{ConnState, ReservedOutbound};
-use net_base::{Addr, Cid, Facts, Ip, OutOfMemory};
+use net_base::{Cid, Facts, OutOfMemory};
 use std::alloc::Global;
 
 /// The connections in order of id, and what is kept beside them. Whoever has one keeps it as its calls leave it. Places
@@ -117,11 +117,8 @@ impl Roster {
         ensures facts { facts_kept self.new ≡ moved_at result.cid.0 (after_step step) (facts_kept self.old) }
         ensures given { self.new.given ≡ self.old.given }
     {
-        let old = self.states.replace(place, spare());
-        let was = old.facts();
-        let new = stepped(old, step);
-        self.counted = recounted(self.counted, is_counted(&was), is_counted(new.as_facts()));
-        self.states.replace(place, new);
+        let Turned { was, counted } = self.states.change(place, step);
+        self.counted = recounted(self.counted, is_counted(&was), counted);
         self.recent = Some(Recent {
             cid: was.cid,
             place,
@@ -203,15 +200,6 @@ impl Roster {
         let facts = self.states.get(place)?.as_facts();
         if facts.cid == cid { Some(facts) } else { None }
     }
-}
-
-// What stands at a place while its state makes a move.
-fn spare() -> ConnState {
-    let addr = Addr {
-        ip: Ip::V4(0),
-        port: 0,
-    };
-    ConnState::ReservedOutbound(ReservedOutbound::new(Cid(0), addr))
 }
 
 // A count after one that was counted or not is counted or not.

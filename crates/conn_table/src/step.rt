@@ -6,11 +6,14 @@ ghost use Rattle.conn_state.specs.State.{facts_of, HasShape, as_released, as_aft
 ghost use Rattle.conn_state.specs.Use.{is_dialing, is_greeting, is_outbound, is_acquirable, runs};
 ghost use Rattle.conn_table.specs.Answers.{is_due};
 ghost use Rattle.conn_table.specs.Conditions.{CanStep, CanAwake, after_step};
+ghost use Rattle.conn_table.specs.Turned.{HasTurned};
 ghost use Rattle.net_base.specs.declared.connection.Facts.{Facts};
 
-use conn_state::facts::is_outbound;
-use conn_state::{AfterDuplex, AfterInbound, ConnState, Released, Unnegotiated};
-use net_base::Agreed;
+use chunked_list::Change;
+use conn_state::facts::{is_counted, is_outbound};
+use conn_state::{AfterDuplex, AfterInbound, ConnState, Released, ReservedOutbound, Unnegotiated};
+use net_base::{Addr, Agreed, Cid, Facts, Ip};
+use std::mem;
 
 /// A move of a connection that stands. The moment of each is the one until which what it begins may last.
 #[derive(Clone, Copy, PartialEq, Eq)]
@@ -31,8 +34,41 @@ pub enum Step {
     GraceOver(u64),
 }
 
+// What is told of a move.
+pub struct Turned {
+    // what was known of the connection before
+    pub was: Facts,
+    // whether the limits count it then
+    pub counted: bool,
+}
+
+impl Change<ConnState> for Step {
+    type Answer = Turned;
+
+    ghost may = { λ step state. CanStep step (facts_of state) };
+
+    ghost does = { λ step old new turned. HasTurned step old new turned };
+
+    fn apply(self, state: &mut ConnState) -> Turned {
+        let old = mem::replace(state, spare());
+        let was = old.facts();
+        *state = stepped(old, self);
+        let counted = is_counted(state.as_facts());
+        Turned { was, counted }
+    }
+}
+
+// What stands at a place while its state makes a move.
+fn spare() -> ConnState {
+    let addr = Addr {
+        ip: Ip::V4(0),
+        port: 0,
+    };
+    ConnState::ReservedOutbound(ReservedOutbound::new(Cid(0), addr))
+}
+
 // The state after a move that it has.
-pub(crate) fn stepped(state: ConnState, step: Step) -> ConnState
+fn stepped(state: ConnState, step: Step) -> ConnState
     requires shape { HasShape state }
     requires can { CanStep step (facts_of state) }
     ensures { facts_of result ≡ after_step step (facts_of state) }

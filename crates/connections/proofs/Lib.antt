@@ -1,6 +1,8 @@
+mod Follows
 pub mod LastLinks
 pub mod LinkedTurns
 pub mod Reading
+mod Regraced
 mod Retimed
 pub mod TalkFeeds
 pub mod TalkFinds

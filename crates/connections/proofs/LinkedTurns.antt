@@ -31,7 +31,7 @@ use Rattle.connections.specs.Linked.{links_in, sight_of, IsLinked, IsLinkedWith,
 use Rattle.connections.specs.Standing.{Standing, entry_with, turned, come, gone, Turns}
 use Rattle.connections.specs.Timed.{ids_in, IsTimed}
 use Rattle.connections.specs.declared.sight.Sight.{Sight}
-use Rattle.connections.proofs.TimedTurns.{id_of, turned_in, others_in, stands_as, own_id, found_one, if_found, stands_in, some_of}
+use Rattle.connections.proofs.TimedTurns.{id_of, turned_in, others_in, stands_as, own_id, found_one, if_found}
 
 abbrev links_of : List Entry → List Link
 links_of es = map link_of es
@@ -142,12 +142,6 @@ linked_but cid change old new queue links timed linked there keeps turns =
     (turned_but_by cid (change it.0) it.0 old links linked (ids-rise old queue timed) it.1
     (ap (λ (p : Placed). p.cid) (keeps it.0) ∙ own_id cid old.entries it.0 it.1) (sym (ap (λ (p : Placed). p.addr) (keeps it.0))))
 
-pub moved_linked : (cid : Cid) (P : Entry → Type 0) (change : Entry → Entry) (s old new : Standing) (queue : Queue) (links : List Link) → IsTimed old queue →
-    IsLinked old links → old ≡ s → IsSomeAnd (entry_with cid.0 s) P → ((e : Entry) → placed_of (change e).facts ≡ placed_of e.facts) →
-    Turns cid.0 change old new → IsLinkedBut cid new links
-moved_linked cid P change s old new queue links timed linked is asked keeps turns =
-    linked_but cid change old new queue links timed linked (stands_in cid s old is (some_of P (entry_with cid.0 s) asked)) keeps turns
-
 -- its link is put in its place
 pub linked_again : (cid : Cid) (s : Standing) (old new : List Link) (e : Entry) (link : Link) → IsLinkedBut cid s old → entry_with cid.0 s ≡ Some e →
     link ≡ link_of e → new ≡ with_link link old → IsLinked s new
@@ -221,12 +215,6 @@ linked_if cid change seen old new queue links timed linked there keeps was turns
     let stays : link_of e ≡ link_of it.0 = ap (λ p. link_with p (sight_of e)) (keeps it.0) ∙ ap (link_with (placed_of it.0.facts)) (same ∙ before) in
     subst (HaveSameLinks links)
     (sym (links-same e it.0 old.entries stays found (ids-rise old queue timed))) linked))
-
-pub moved_if : (cid : Cid) (P : Entry → Type 0) (change : Entry → Entry) (seen : Sight) (s old new : Standing) (queue : Queue) (links : List Link) →
-    IsTimed old queue → IsLinked old links → old ≡ s → IsSomeAnd (entry_with cid.0 s) P → ((e : Entry) → placed_of (change e).facts ≡ placed_of e.facts) →
-    IfSome (entry_with cid.0 old) (λ e. seen ≡ sight_of e) → Turns cid.0 change old new → IsLinkedIf seen cid new links
-moved_if cid P change seen s old new queue links timed linked is asked keeps was turns =
-    linked_if cid change seen old new queue links timed linked (stands_in cid s old is (some_of P (entry_with cid.0 s) asked)) keeps was turns
 
 pub linked_same : (cid : Cid) (change : Entry → Entry) (old new : Standing) (queue : Queue) (links : List Link) → IsTimed old queue → IsLinked old links →
     IsSome (entry_with cid.0 old) → ((e : Entry) → link_of (change e) ≡ link_of e) → Turns cid.0 change old new → IsLinked new links

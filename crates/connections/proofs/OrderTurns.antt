@@ -1,5 +1,5 @@
 -- Which connection goes first, after a change of one.
-use Rattle.std.proofs.Common.{◌≡◌, ℕ, zero, suc, ◌+◌, ◌<◌, ◌≤◌, nat_eq, Bool, true, false, ◌||◌, if◌then◌else◌, List, [], ◌∷◌, ◌++◌, map, length, slice_get, Option, Some, None, refl, sym, ap, subst, ◌∙◌, inl, inr, arith}
+use Rattle.std.proofs.Common.{◌≡◌, ℕ, zero, suc, ◌+◌, ◌<◌, ◌≤◌, nat_eq, true, false, if◌then◌else◌, List, [], ◌∷◌, ◌++◌, map, length, slice_get, Option, Some, None, refl, sym, ap, subst, ◌∙◌, inl, inr, arith}
 use Rattle.std.specs.List.{AllByRecursion, filter_map, cons_option}
 use Rattle.std.specs.Option.{option_eq}
 use Rattle.std.proofs.lemmas.Bool.{cases_Bool, false≢true, true≢false}
@@ -19,7 +19,6 @@ use Rattle.net_base.proofs.AddressOrder.{same_number}
 use Rattle.net_base.specs.declared.connection.Cid.{Cid}
 use Rattle.net_base.specs.declared.connection.Facts.{Facts}
 use Rattle.prune_order.specs.Order.{Order, candidates, stands, with_rank, without}
-use Rattle.prune_order.specs.declared.ranked.Ranked.{Ranked}
 use Rattle.timer_queue.proofs.Orders.{same_cid-is}
 use Rattle.connections.specs.Kept.{IsWhole}
 use Rattle.connections.specs.Ordered.{row_of, rows_in, IsOrdered, reranked}

@@ -33,10 +33,10 @@ use Rattle.timer_queue.proofs.Rising.{has-filter, any-find, any-map, find-replac
 abbrev pub id_of : Entry → Cid
 id_of e = e.facts.cid
 
-has-append : (d : Deadline) (xs ys : List Deadline) → has_timer d (xs ++ ys) ≡ (has_timer d xs || has_timer d ys)
+pub has-append : (d : Deadline) (xs ys : List Deadline) → has_timer d (xs ++ ys) ≡ (has_timer d xs || has_timer d ys)
 has-append d xs ys = list_any-append (λ e. same_timer e d) xs ys
 
-has-without : (cid : Cid) (d : Deadline) (ds : List Deadline) → has_timer d (without_cid cid ds) ≡ (has_timer d ds && not (is_of cid d))
+pub has-without : (cid : Cid) (d : Deadline) (ds : List Deadline) → has_timer d (without_cid cid ds) ≡ (has_timer d ds && not (is_of cid d))
 has-without cid d ds = has-filter deadline_before same_timer timer_order (λ e. not (is_of cid e)) d ds
 
 -- ---- a timer of another connection is no deadline of this one
@@ -143,6 +143,17 @@ turned_but cid change old new queue timed there keeps turns =
     subst (λ s. IsTimedBut cid s queue) (sym is)
     (turned_but_by cid (change it.0) old queue timed (keeps it.0 ∙ own_id cid old.entries it.0 it.1) there)
 
+-- what stands of the one that turned
+pub turned_there : (cid : Cid) (change : Entry → Entry) (old new : Standing) (e : Entry) → entry_with cid.0 old ≡ Some e → (change e).facts.cid ≡ cid →
+    Turns cid.0 change old new → entry_with cid.0 new ≡ Some (change e)
+turned_there cid change old new e found own turns =
+    let is : new ≡ turned (change e) old = if_found (λ x. new ≡ turned (change x) old) (entry_with cid.0 old) e found turns in
+    let there : entry_with (change e).facts.cid.0 old ≡ Some e = ap (λ (c : Cid). entry_with c.0 old) own ∙ found in
+    ap (entry_with cid.0) is
+    ∙ (ap (λ (c : Cid). entry_with c.0 (turned (change e) old)) (sym own)
+    ∙ find-replaced cid_below same_cid cid_order id_of (change e).facts.cid (change e) old.entries (cid_order.same_itself (change e).facts.cid)
+    (sym (stands_as (change e).facts.cid old.entries) ∙ subst IsSome (sym there) refl))
+
 -- what a move asks of the connection says that it stands
 pub stands_in : (cid : Cid) (s t : Standing) → t ≡ s → IsSome (entry_with cid.0 s) → IsSome (entry_with cid.0 t)
 stands_in cid s t is there = subst (λ r. IsSome (entry_with cid.0 r)) (sym is) there
@@ -182,6 +193,12 @@ among-own d cid (x ∷ xs) e its rises found = elim (cases_Bool (same_cid x.fact
     or_false : (b : Bool) → (b || false) ≡ b
     or_false true = refl
     or_false false = refl
+
+-- of a connection the timers are the deadlines
+pub own_deadlines : (cid : Cid) (s : Standing) (queue : Queue) (e : Entry) → IsTimed s queue → entry_with cid.0 s ≡ Some e →
+    (d : Deadline) → is_of cid d ≡ true → has_timer d queue.timers ≡ has_timer d (deadlines_of e)
+own_deadlines cid s queue e timed found d its =
+    timed.timers d ∙ among-own d cid s.entries e its (subst (IsRising cid_below (λ c. c)) timed.enrolled timed.orderly.ids_rise) found
 
 pub timed_again : (cid : Cid) (s : Standing) (old new : Queue) (e : Entry) → IsTimedBut cid s old → entry_with cid.0 s ≡ Some e →
     new.enrolled ≡ old.enrolled → HaveSame new.timers (deadlines_of e ++ without_cid e.facts.cid old.timers) → IsOrderly new → IsTimed s new

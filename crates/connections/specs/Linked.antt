@@ -1,5 +1,5 @@
 -- The links of the connections that stand: what the rules see of each, found by its address and id.
-use Rattle.std.specs.Prelude.{◌≡◌, true, List, map, is_some, IfSome, IsSomeAnd}
+use Rattle.std.specs.Prelude.{◌≡◌, ◌⊎◌, true, List, map, is_some, IfSome, IsSomeAnd}
 use Rattle.conn_state.specs.Protocols.{chain_sync, keep_alive, peer_sharing}
 use Rattle.conn_state.specs.Use.{is_live, is_acquirable, is_pending, agreed_sharing}
 use Rattle.govern_rules.specs.declared.link.Link.{Link}
@@ -44,3 +44,7 @@ IsLinkedBut cid s links = IsSomeAnd (entry_with cid.0 s) (λ e. IsLinkedWith (li
 -- they are, where what the rules see of one of them is the same still
 abbrev pub IsLinkedIf : Sight → Cid → Standing → List Link → Type 0
 IsLinkedIf seen cid s links = IfSome (entry_with cid.0 s) (λ e. sight_of e ≡ seen → IsLinked s links)
+
+-- where what the rules see of a connection is another than before, its link is put in its place
+abbrev pub IsRelinked : Entry → Entry → List Link → List Link → Type 0
+IsRelinked was is old new = ((sight_of is ≡ sight_of was) × (new ≡ old)) ⊎ (new ≡ with_link (link_of is) old)

@@ -1,5 +1,5 @@
 -- What a step makes of a connection.
-use Rattle.std.specs.Prelude.{Bool, false, not, if◌then◌else◌}
+use Rattle.std.specs.Prelude.{Bool, true, false, not, if◌then◌else◌}
 use Rattle.conn_table.specs.Conditions.{after_step}
 use Rattle.conn_table.specs.declared.step.Step.{Step}
 use Rattle.conn_table.specs.declared.step.Step.TheVariants.{Connected, Negotiated, Acquire, Release, Awake, Idle, GraceOver}
@@ -19,6 +19,16 @@ closes (Release until) f = false
 closes (Awake protocol) f = false
 closes (Idle protocol until) f = false
 closes (GraceOver until) f = not f.local
+
+-- Its phase stays: it is taken into use or used no more, or a responder starts or stops.
+abbrev pub keeps_phase : Step → Bool
+keeps_phase (Connected until) = false
+keeps_phase (Negotiated agreed until) = false
+keeps_phase Acquire = true
+keeps_phase (Release until) = true
+keeps_phase (Awake protocol) = true
+keeps_phase (Idle protocol until) = true
+keeps_phase (GraceOver until) = false
 
 -- its facts move, and nothing more is read of one that this side closes
 abbrev pub stepped : Step → Entry → Entry

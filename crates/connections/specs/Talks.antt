@@ -1,10 +1,11 @@
 -- What is kept of each connection beside its facts.
-use Rattle.std.specs.Prelude.{◌≡◌, ℕ, ◌+◌, List, [], ◌∷◌, set, slice_get, None, IfSome}
+use Rattle.std.specs.Prelude.{◌≡◌, ℕ, ◌+◌, List, [], ◌∷◌, set, slice_get, None, IfSome, Result, OnOk, OnErr, IfOk}
 use Rattle.conn_table.specs.Table.{Table, IdsRise}
 use Rattle.machine.specs.Machine.{Entry, Owed}
 use Rattle.mux_segment.specs.Protocols.{node_limits}
 use Rattle.mux_segment.specs.Stream.{CutterState, FedBy, nothing_fed, fed_by}
 use Rattle.net_base.specs.declared.connection.Facts.{Facts}
+use Rattle.net_base.specs.declared.memory.OutOfMemory.{OutOfMemory}
 use Rattle.connections.specs.Standing.{Standing}
 use Rattle.connections.specs.declared.decoded.Decoded.{Decoded}
 use Rattle.connections.specs.declared.talk.Talk.{Talk}
@@ -66,3 +67,9 @@ fed_talk bytes talk = with_cutter (going_on (fed_by node_limits talk.cutter byte
 pub record IsFed (expected : FedBy) (fed : Decoded) : Type 0 where
   pub items : fed.items ≡ expected.items
   pub fault : fed.fault ≡ expected.state.fault
+
+-- what new bytes make of it, and what is told. Where memory is refused, nothing of the stream is left
+pub record HasFed (bytes : List ℕ) (old new : Talk) (answer : Result Decoded OutOfMemory) : Type 0 where
+  pub ok : OnOk answer (new ≡ fed_talk bytes old)
+  pub gives : IfOk answer (λ fed. IsFed (fed_by node_limits old.cutter bytes) fed)
+  pub err : OnErr answer (new ≡ with_cutter nothing_fed old)

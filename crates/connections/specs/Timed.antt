@@ -1,7 +1,8 @@
 -- The timers of the connections that stand: the deadlines of each.
-use Rattle.std.specs.Prelude.{◌≡◌, ℕ, List, map, Option, Some, None, IsSome}
+use Rattle.std.specs.Prelude.{◌≡◌, ℕ, true, List, map, Option, Some, None, IsSome}
 use Rattle.std.specs.List.{flat_map}
 use Rattle.machine.specs.Deadlines.{deadlines_of}
+use Rattle.machine.specs.Machine.{Entry}
 use Rattle.net_base.specs.declared.connection.Cid.{Cid}
 use Rattle.net_base.specs.declared.connection.Grace.{Grace}
 use Rattle.net_base.specs.declared.connection.Grace.TheVariants.{Off, ForRemote, ForLocal}
@@ -9,7 +10,7 @@ use Rattle.net_base.specs.declared.connection.Phase.{Phase}
 use Rattle.net_base.specs.declared.connection.Phase.TheVariants.{Dialing, Greeting, Negotiated, Closing}
 use Rattle.net_base.specs.declared.timer.Deadline.{Deadline}
 use Rattle.timer_queue.specs.Queue.{Queue, IsOrderly}
-use Rattle.timer_queue.specs.Timers.{HaveSame, without_cid}
+use Rattle.timer_queue.specs.Timers.{HaveSame, has_timer, is_of, without_cid}
 use Rattle.connections.specs.Standing.{Standing, entry_with}
 use Rattle.connections.specs.declared.reply.Reply.{Reply}
 
@@ -31,6 +32,10 @@ pub record IsTimedBut (cid : Cid) (s : Standing) (queue : Queue) : Type 0 where
   pub timers : HaveSame (without_cid cid queue.timers) (without_cid cid (deadlines_in s))
   pub orderly : IsOrderly queue
   pub stands : IsSome (entry_with cid.0 s)
+
+-- of the timers of one connection a list has the deadlines, and no other
+abbrev pub HasDeadlinesOf : Entry → List Deadline → Type 0
+HasDeadlinesOf e timers = (d : Deadline) → is_of e.facts.cid d ≡ true → has_timer d timers ≡ has_timer d (deadlines_of e)
 
 -- ---- the moments of a connection, by kind
 

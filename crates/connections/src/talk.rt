@@ -1,14 +1,14 @@
-ghost use Rattle.std.specs.Prelude.{◌≡◌, ◌<◌, length, slice_get, set, None, Some, IfSome, OnOk, OnErr, IfOk, true};
+ghost use Rattle.std.specs.Prelude.{◌≡◌, ◌<◌, length, None, IfSome, IfOk, true, ⊤};
 ghost use Rattle.machine.specs.Replies.{with_reply, without_reply, is_owed_on};
 ghost use Rattle.mux_segment.specs.Protocols.{node_limits};
 ghost use Rattle.mux_segment.specs.Stream.{nothing_fed, fed_by};
 ghost use Rattle.net_base.specs.Shared.{nothing_undecoded};
 ghost use Rattle.connections.specs.Steps.{unread_if};
-ghost use Rattle.connections.specs.Talks.{TurnsAt, with_cutter, with_owed, fresh_talk, fed_talk, going_on, IsFed};
+ghost use Rattle.connections.specs.Talks.{TurnsAt, with_cutter, with_owed, fresh_talk, going_on, HasFed, IsFed};
 
 use crate::replies::Replies;
 use crate::{Decoded, Reply};
-use chunked_list::ChunkedList;
+use chunked_list::{Change, ChunkedList};
 use mux_segment::{CutFault, Cutter, PackedItems};
 use net_base::OutOfMemory;
 use std::alloc::Global;
@@ -40,59 +40,58 @@ pub fn unread_at(talks: &mut ChunkedList<Talk>, place: usize, alloc: Global, clo
     ensures { TurnsAt place (unread_if closed) talks.old talks.new }
 {
     if closed {
-        swap_cutter(talks, place, alloc, Cutter::new(alloc));
+        let cutter = Cutter::new(alloc);
+        talks.change(place, Unread { cutter });
     }
 }
 
-// Another cutter goes on with a stream.
-pub fn swap_cutter(
-    talks: &mut ChunkedList<Talk>,
-    place: usize,
-    alloc: Global,
+// A fresh cutter goes on.
+struct Unread {
     cutter: Cutter,
-) -> Cutter
-    requires { place < length talks.old }
-    ensures old { IfSome (slice_get talks.old place) (λ t. result ≡ t.cutter) }
-    ensures talks { TurnsAt place (with_cutter cutter) talks.old talks.new }
-{
-    let mut talk = take_out(talks, place, alloc);
-    let old = mem::replace(&mut talk.cutter, cutter);
-    put_back(talks, place, talk);
-    old
+}
+
+impl Change<Talk> for Unread {
+    type Answer = ();
+
+    ghost may = { λ unread talk. unread.cutter ≡ nothing_fed };
+
+    ghost does = { λ unread old new answer. new ≡ with_cutter nothing_fed old };
+
+    fn apply(self, talk: &mut Talk) {
+        let Unread { cutter } = self;
+        talk.cutter = cutter;
+    }
 }
 
 // New bytes of a stream that goes on. Where memory is refused, nothing of it is left. The items stand in memory that is given.
-pub fn feed_at(
-    talks: &mut ChunkedList<Talk>,
-    place: usize,
-    alloc: Global,
-    bytes: &[u8],
-    memory: PackedItems,
-) -> Result<Decoded, OutOfMemory>
-    requires inside { place < length talks.old }
-    requires goes_on { IfSome (slice_get talks.old place) (λ t. t.cutter.fault ≡ None) }
-    ensures ok { OnOk result (TurnsAt place (fed_talk bytes.now) talks.old talks.new) }
-    ensures gives { IfOk result (λ fed. IfSome (slice_get talks.old place)
-        (λ t. IsFed (fed_by node_limits t.cutter bytes.now) fed)) }
-    ensures err { OnErr result (TurnsAt place (with_cutter nothing_fed) talks.old talks.new) }
-{
-    let talk = take_out(talks, place, alloc);
-    let Talk { cutter, replies } = talk;
-    match feed(cutter, alloc, bytes, memory) {
-        Ok((cutter, fed)) => {
-            put_back(talks, place, Talk { cutter, replies });
-            Ok(fed)
-        }
-        Err(OutOfMemory) => {
-            let cutter = Cutter::new(alloc);
-            put_back(talks, place, Talk { cutter, replies });
-            Err(OutOfMemory)
-        }
+pub struct Feed<'a> {
+    pub alloc: Global,
+    pub bytes: &'a [u8],
+    pub memory: PackedItems,
+}
+
+impl<'a> Change<Talk> for Feed<'a> {
+    type Answer = Result<Decoded, OutOfMemory>;
+
+    ghost may = { λ feed talk. talk.cutter.fault ≡ None };
+
+    ghost does = { λ feed old new answer. HasFed feed.bytes.now old new answer };
+
+    fn apply(self, talk: &mut Talk) -> Result<Decoded, OutOfMemory> {
+        let Feed {
+            alloc,
+            bytes,
+            memory,
+        } = self;
+        let cutter = mem::replace(&mut talk.cutter, Cutter::new(alloc));
+        let (cutter, fed) = feed_cutter(cutter, alloc, bytes, memory)?;
+        talk.cutter = cutter;
+        Ok(fed)
     }
 }
 
 // New bytes of a stream that goes on, and the cutter with which it does.
-fn feed(
+fn feed_cutter(
     cutter: Cutter,
     alloc: Global,
     bytes: &[u8],
@@ -122,48 +121,39 @@ fn next_cutter(alloc: Global, cutter: Cutter, fault: Option<CutFault>) -> Cutter
 }
 
 // A reply comes to be owed.
-pub fn owe_at(
-    talks: &mut ChunkedList<Talk>,
-    place: usize,
-    alloc: Global,
-    protocol: u16,
-    reply: Reply,
-)
-    requires inside { place < length talks.old }
-    requires asked { is_owed_on protocol ≡ true }
-    ensures { TurnsAt place
-        (with_owed (with_reply (record { protocol = protocol; until = reply.until; asked = reply.asked })))
-        talks.old talks.new }
-{
-    let mut talk = take_out(talks, place, alloc);
-    talk.replies.owe(protocol, reply);
-    put_back(talks, place, talk);
+pub struct Owe {
+    pub protocol: u16,
+    pub reply: Reply,
+}
+
+impl Change<Talk> for Owe {
+    type Answer = ();
+
+    ghost may = { λ owe talk. is_owed_on owe.protocol ≡ true };
+
+    ghost does = { λ owe old new answer.
+        new ≡ with_owed (with_reply (record { protocol = owe.protocol; until = owe.reply.until; asked = owe.reply.asked })) old };
+
+    fn apply(self, talk: &mut Talk) {
+        let Owe { protocol, reply } = self;
+        talk.replies.owe(protocol, reply);
+    }
 }
 
 // A reply is owed no more.
-pub fn pay_at(talks: &mut ChunkedList<Talk>, place: usize, alloc: Global, protocol: u16)
-    requires { place < length talks.old }
-    ensures { TurnsAt place (with_owed (without_reply protocol)) talks.old talks.new }
-{
-    let mut talk = take_out(talks, place, alloc);
-    talk.replies.pay(protocol);
-    put_back(talks, place, talk);
+pub struct Pay {
+    pub protocol: u16,
 }
 
-// Takes one out of its place, where a fresh one stands meanwhile.
-fn take_out(talks: &mut ChunkedList<Talk>, place: usize, alloc: Global) -> Talk
-    requires { place < length talks.old }
-    ensures there { slice_get talks.old place ≡ Some result }
-    ensures rest { talks.new ≡ set talks.old place fresh_talk }
-{
-    talks.replace(place, Talk::new(alloc))
-}
+impl Change<Talk> for Pay {
+    type Answer = ();
 
-// Puts one at a place, over the fresh one.
-#[inline(always)]
-fn put_back(talks: &mut ChunkedList<Talk>, place: usize, talk: Talk)
-    requires { place < length talks.old }
-    ensures { talks.new ≡ set talks.old place talk }
-{
-    talks.replace(place, talk);
+    ghost may = { λ pay talk. ⊤ };
+
+    ghost does = { λ pay old new answer. new ≡ with_owed (without_reply pay.protocol) old };
+
+    fn apply(self, talk: &mut Talk) {
+        let Pay { protocol } = self;
+        talk.replies.pay(protocol);
+    }
 }

@@ -1,6 +1,9 @@
+ghost use Rattle.std.specs.Prelude.{◌≡◌, ⊤};
+
 use super::next_word;
-use chunked_list::ChunkedList;
+use chunked_list::{Change, ChunkedList};
 use std::alloc::Global;
+use std::mem;
 use std::process::Abort;
 use std::test::Fail;
 
@@ -11,6 +14,25 @@ enum Call {
     Push(u64),
     Remove(usize),
     Replace(usize, u64),
+    Change(usize, u64),
+}
+
+// Another number stands where one stood, which is told.
+struct Renumbering {
+    number: u64,
+}
+
+impl Change<u64> for Renumbering {
+    type Answer = u64;
+
+    ghost may = { λ renumbering old. ⊤ };
+
+    ghost does = { λ renumbering old new answer. (new ≡ renumbering.number) × (answer ≡ old) };
+
+    fn apply(self, item: &mut u64) -> u64 {
+        let Renumbering { number } = self;
+        mem::replace(item, number)
+    }
 }
 
 fn call_of(number: u64, most: usize) -> Call {
@@ -19,6 +41,7 @@ fn call_of(number: u64, most: usize) -> Call {
         0 | 1 | 2 | 3 | 4 | 5 if place < most => Call::Insert(place, number),
         6 => Call::Push(number),
         7 => Call::Replace(place, number),
+        8 => Call::Change(place, number),
         _ => Call::Remove(place),
     }
 }
@@ -32,6 +55,9 @@ fn ask(list: &mut ChunkedList<u64>, call: Call) -> Result<Option<u64>, Fail> {
         Call::Replace(place, item) if place < list.len() => {
             return Ok(Some(list.replace(place, item)));
         }
+        Call::Change(place, number) if place < list.len() => {
+            return Ok(Some(list.change(place, Renumbering { number })));
+        }
         _ => {}
     }
     Ok(None)
@@ -43,7 +69,7 @@ fn ask_plain(plain: &mut Vec<u64>, call: Call) -> Result<Option<u64>, Fail> {
         Call::Insert(place, item) if place <= plain.len() => plain.insert(place, item)?,
         Call::Push(item) => plain.push(item)?,
         Call::Remove(place) if place < plain.len() => return Ok(Some(plain.remove(place))),
-        Call::Replace(place, item) if place < plain.len() => {
+        Call::Replace(place, item) | Call::Change(place, item) if place < plain.len() => {
             let old = plain[place];
             plain[place] = item;
             return Ok(Some(old));

@@ -1,4 +1,4 @@
-ghost use Rattle.std.specs.Prelude.{◌≡◌, ◌≤◌, ◌+◌, ◌^◌, false, None, IsSomeAnd, IsSome, IfSome, IfOk, OnOk, OnErr};
+ghost use Rattle.std.specs.Prelude.{◌≡◌, ◌≤◌, ◌+◌, ◌^◌, false, true, None, IsSomeAnd, IsSome, IfSome, IfOk, OnOk, OnErr};
 ghost use Rattle.conn_state.specs.Moves.{accepted, dialing};
 ghost use Rattle.conn_state.specs.Names.{name_of};
 ghost use Rattle.conn_state.specs.State.{facts_of};
@@ -7,7 +7,10 @@ ghost use Rattle.conn_table.specs.Answers.{any_at};
 ghost use Rattle.conn_table.specs.Conditions.{CanStep};
 ghost use Rattle.timer_queue.specs.Queue.{IsOrderly, with_enrolled};
 ghost use Rattle.links.specs.Link.{place_of};
+ghost use Rattle.machine.specs.Govern.{link_of};
+ghost use Rattle.net_base.specs.Shared.{nothing_undecoded};
 ghost use Rattle.links.specs.Rows.{stands_at, with_new};
+ghost use Rattle.connections.specs.Linked.{IsRelinked};
 ghost use Rattle.connections.specs.Standing.{entry_with, live_entry, facts_in, come, gone, Turns};
 ghost use Rattle.connections.specs.Steps.{closes, stepped};
 
@@ -15,8 +18,9 @@ use super::Connections;
 use crate::kept::rerank;
 use crate::link::link_of;
 use crate::replies::Replies;
+use crate::sight::sight_of;
 use crate::talk::unread_at;
-use crate::timed::retime;
+use crate::timed::{retime, retime_by};
 use conn_state::names::name_of;
 use conn_state::{ConnState, ReservedOutbound, Unnegotiated};
 use conn_table::{Placed, Step};
@@ -65,13 +69,14 @@ impl Connections {
         ensures name { IfSome (entry_with cid.0 self.new) (λ e. result ≡ name_of e.facts) }
     {
         let place = self.kept.roster.place_of(cid);
-        let seen = self.kept.sight(cid, place);
         let was = self.kept.roster.turn_at(place, step);
         unread_at(&mut self.kept.talks, place, self.alloc, closes(step, &was));
-        rerank(&mut self.kept.order, &was, self.kept.roster.at(place));
-        self.kept
-            .follow(cid, place, seen, &mut self.timers, &mut self.links);
-        name_of(self.kept.roster.at(place))
+        let is = self.kept.roster.at(place);
+        let replies = &self.kept.talks.at(place).replies;
+        rerank(&mut self.kept.order, &was, is);
+        retime_by(step, &mut self.timers, &was, is, replies);
+        relink(&mut self.links, &was, is, replies);
+        name_of(is)
     }
 
     /// A connection goes.
@@ -126,6 +131,19 @@ impl Connections {
             }
         }
     }
+}
+
+// What the rules see of a connection is its link. Most moves leave what was seen of it before, and then no link is looked for.
+#[inline(always)]
+fn relink(links: &mut Links, was: &Facts, is: &Facts, replies: &Replies)
+    requires { stands_at (place_of (link_of (record { facts = is.now; undecoded = nothing_undecoded; owed = replies.now }))) links.old ≡ true }
+    ensures { IsRelinked (record { facts = was.now; undecoded = nothing_undecoded; owed = replies.now })
+        (record { facts = is.now; undecoded = nothing_undecoded; owed = replies.now }) links.old links.new }
+{
+    if sight_of(was, replies) == sight_of(is, replies) {
+        return;
+    }
+    links.set(link_of(is, replies));
 }
 
 // Whether this side closes a connection by a step.

@@ -7,7 +7,7 @@ ghost use Rattle.connections.specs.Standing.{entry_with, Turns, owes, fed_of, fe
 ghost use Rattle.connections.specs.Talks.{IsFed};
 
 use super::Connections;
-use crate::talk::{feed_at, owe_at, pay_at};
+use crate::talk::{Feed, Owe, Pay};
 use crate::{Decoded, Reply};
 use conn_table::Recent;
 use mux_segment::{LentItem, PackedItems};
@@ -34,7 +34,7 @@ impl Connections {
         let until = now + self.kept.settings.reply;
         let reply = Reply { until, asked };
         let seen = self.kept.sight(cid, place);
-        owe_at(&mut self.kept.talks, place, self.alloc, protocol, reply);
+        self.kept.talks.change(place, Owe { protocol, reply });
         self.kept
             .follow(cid, place, seen, &mut self.timers, &mut self.links);
     }
@@ -46,7 +46,7 @@ impl Connections {
     {
         let place = self.kept.roster.place_of(cid);
         let seen = self.kept.sight(cid, place);
-        pay_at(&mut self.kept.talks, place, self.alloc, protocol);
+        self.kept.talks.change(place, Pay { protocol });
         self.kept
             .follow(cid, place, seen, &mut self.timers, &mut self.links);
     }
@@ -77,6 +77,14 @@ impl Connections {
         // no deadline comes or goes, and no link changes
         let place = self.kept.roster.place_of(cid);
         self.kept.roster.recent = Some(Recent { cid, place });
-        feed_at(&mut self.kept.talks, place, self.alloc, bytes, memory)
+        let alloc = self.alloc;
+        self.kept.talks.change(
+            place,
+            Feed {
+                alloc,
+                bytes,
+                memory,
+            },
+        )
     }
 }

@@ -1,14 +1,15 @@
 use Rattle.std.proofs.Common.{◌≡◌, set, IfSome, sym, subst}
+use Rattle.mux_segment.specs.Stream.{nothing_fed}
 use Rattle.connections.specs.Steps.{unread_if}
 use Rattle.connections.specs.Talks.{TurnsAt, with_cutter}
-use Rattle.connections.proofs.TalkFeeds.{talk_there}
+use Rattle.connections.proofs.TalkFeeds.{changed_at, talk_there}
 use Rattle.connections.proofs.TalkTurns.{stays_at}
 use Rattle.connections.proofs.talk.unread_at.Goals as goal
 
 pub returns-then-closed : goal.returns-then-closed
 returns-then-closed c =
-    subst (λ b. TurnsAt c.args.place (unread_if b) c.args.talks.now c.swap_cutter.new.talks) (sym c.if-closed.true)
-    (subst (λ k. TurnsAt c.args.place (with_cutter k) c.args.talks.now c.swap_cutter.new.talks) c.new.ensures c.swap_cutter.ensures.talks)
+    subst (λ b. TurnsAt c.args.place (unread_if b) c.args.talks.now c.change.new.self) (sym c.if-closed.true)
+    (changed_at (with_cutter nothing_fed) _ c.args.talks.now c.change.new.self c.args.place c.requires (λ old new d. d) c.change.ensures)
 
 pub returns-else-closed : goal.returns-else-closed
 returns-else-closed c =

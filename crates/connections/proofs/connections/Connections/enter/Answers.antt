@@ -4,7 +4,6 @@ use Rattle.conn_state.specs.State.{facts_of}
 use Rattle.conn_state.specs.Use.{live_at}
 use Rattle.conn_table.specs.Index.{placed_of}
 use Rattle.conn_table.specs.declared.placed.Placed.{Placed}
-use Rattle.govern_rules.specs.declared.link.Link.{Link}
 use Rattle.machine.specs.Deadlines.{deadlines_of}
 use Rattle.machine.specs.Govern.{link_of}
 use Rattle.machine.specs.Machine.{fresh_entry}

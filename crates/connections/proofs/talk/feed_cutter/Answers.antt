@@ -3,7 +3,7 @@ use Rattle.mux_segment.specs.Protocols.{node_limits}
 use Rattle.mux_segment.specs.Stream.{CutterState, fed_by}
 use Rattle.net_base.specs.Shared.{nothing_undecoded}
 use Rattle.connections.proofs.TalkFeeds.{nothing_left}
-use Rattle.connections.proofs.talk.feed.Goals as goal
+use Rattle.connections.proofs.talk.feed_cutter.Goals as goal
 
 pub next_cutter-cutter-requires-clause-empty : goal.next_cutter-cutter-requires-clause-empty
 next_cutter-cutter-requires-clause-empty c =
