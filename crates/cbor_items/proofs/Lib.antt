@@ -11,3 +11,4 @@ pub mod Fronts
 pub mod Readers
 pub mod Resumes
 pub mod Turns
+pub mod Small

@@ -14,6 +14,10 @@ major_of initial = initial / 32
 abbrev pub info_of : ℕ → ℕ
 info_of initial = initial % 32
 
+-- the initial byte is the head, and has the value
+abbrev pub is_short : ℕ → Bool
+is_short initial = nat_lt (info_of initial) 24
+
 -- how many bytes the argument has
 abbrev pub argument_len : ℕ → ℕ
 argument_len info = if info == 24 then 1 else (if info == 25 then 2 else (if info == 26 then 4 else (if info == 27 then 8 else 0)))

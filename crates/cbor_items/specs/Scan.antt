@@ -1,12 +1,12 @@
 -- The scan of the first item, and what each of its answers means.
-use Rattle.std.specs.Prelude.{ℕ, zero, suc, ◌-◌, Bool, false, ◌&&◌, ◌==◌, nat_lt, List, [], ◌∷◌, length, drop, Result, Ok, Err, if◌then◌else◌}
+use Rattle.std.specs.Prelude.{ℕ, zero, suc, ◌-◌, Bool, false, ◌&&◌, ◌||◌, ◌==◌, nat_lt, List, [], ◌∷◌, length, drop, Result, Ok, Err, if◌then◌else◌}
 use Rattle.cbor_items.specs.declared.head.Head.{Head}
 use Rattle.cbor_items.specs.declared.stop.Stop.{Stop}
 use Rattle.cbor_items.specs.declared.stop.Stop.TheVariants as stop
 use Rattle.cbor_items.specs.declared.scan.Scan.{Scan}
 use Rattle.cbor_items.specs.declared.scan.Scan.TheVariants as scan
 use Rattle.cbor_items.specs.Reading.{◌>>=◌}
-use Rattle.cbor_items.specs.Head.{major_of, info_of, initial_at, argument_at}
+use Rattle.cbor_items.specs.Head.{major_of, info_of, is_short, initial_at, argument_at}
 use Rattle.cbor_items.specs.Item.{is_string, holds_items, level_limit}
 
 -- passing over something at the front of the bytes: the bytes behind it, or what decided before its end
@@ -63,6 +63,10 @@ skip_nested item initial bytes = argument_at initial bytes >>= λ read. skip_nes
 
 abbrev pub is_nested : ℕ → Bool
 is_nested initial = holds_items (major_of initial)
+
+-- an item that is its initial byte alone: a small number, or a simple value
+abbrev pub is_small : ℕ → Bool
+is_small initial = is_short initial && (major_of initial == 0 || major_of initial == 1 || major_of initial == 7)
 
 -- an item, where `nested` passes over what stands behind the initial byte of an array, a map or a tag
 abbrev pub skip_either : (ℕ → Skip) → Skip

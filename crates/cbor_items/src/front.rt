@@ -24,8 +24,26 @@ pub fn split_head(bytes: &[u8]) -> Result<(Head, &[u8]), Absent>
 }
 
 /// The value of a definite head of a major type, and the bytes behind it.
-#[tactic(auto, unfolding(crate::specs::Front::definite_at))]
+#[inline(always)]
 pub fn split_definite(major: u8, bytes: &[u8]) -> Result<(u64, &[u8]), Absent>
+    ensures { Finds (λ read. (read.0, read.1.now)) result (definite_at major bytes.now) }
+{
+    match bytes {
+        [initial, rest @ ..] if *initial % 32 < 24 => {
+            if *initial / 32 == major {
+                Ok((u64::from(*initial % 32), rest))
+            } else {
+                Err(Absent)
+            }
+        }
+        _ => split_any_definite(major, bytes),
+    }
+}
+
+// The same, however many bytes the head has.
+#[inline(never)]
+#[tactic(auto, unfolding(crate::specs::Front::definite_at))]
+fn split_any_definite(major: u8, bytes: &[u8]) -> Result<(u64, &[u8]), Absent>
     ensures { Finds (λ read. (read.0, read.1.now)) result (definite_at major bytes.now) }
 {
     let (head, rest) = split_head(bytes)?;
@@ -37,6 +55,7 @@ pub fn split_definite(major: u8, bytes: &[u8]) -> Result<(u64, &[u8]), Absent>
 }
 
 /// The unsigned number (RFC 8949, section 3.1, major type 0) at the front of the bytes, and the bytes behind it.
+#[inline(always)]
 pub fn split_number(bytes: &[u8]) -> Result<(u64, &[u8]), Absent>
     ensures { Finds (λ read. (read.0, read.1.now)) result (number_at bytes.now) }
 {

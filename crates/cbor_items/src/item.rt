@@ -1,7 +1,7 @@
 ghost use Rattle.std.specs.Prelude.{◌≡◌, ◌<◌, ◌==◌, length};
 ghost use Rattle.cbor_items.specs.Reading.{Gives};
 ghost use Rattle.cbor_items.specs.Head.{argument_at};
-ghost use Rattle.cbor_items.specs.Scan.{skip_bytes, skip_row, skip_to_break, skip_chunk, skip_flat, skip_nested, is_nested, skip_item};
+ghost use Rattle.cbor_items.specs.Scan.{skip_bytes, skip_row, skip_to_break, skip_chunk, skip_flat, skip_nested, is_nested, is_small, skip_item};
 ghost use Rattle.cbor_items.specs.Break.{IsBreak};
 ghost use Rattle.cbor_items.specs.Element.{element_of};
 
@@ -22,6 +22,7 @@ enum Element {
 
 /// Passes over an item with at most so many arrays, maps and tags inside each other.
 #[cycle(item)]
+#[inline(always)]
 pub(crate) fn skip_item(bytes: &[u8], depth: u8) -> Result<&[u8], Stop>
     ensures { Gives (λ rest. rest.now) result (skip_item depth bytes.now) }
 {
@@ -39,6 +40,7 @@ pub(crate) fn skip_item(bytes: &[u8], depth: u8) -> Result<&[u8], Stop>
 // many arrays, maps and tags inside each other.
 #[tactic(auto, unfolding(crate::specs::Scan::skip_nested_content))]
 #[cycle(item)]
+#[inline(never)]
 fn skip_nested(initial: u8, bytes: &[u8], inner: u8) -> Result<&[u8], Stop>
     ensures { Gives (λ rest. rest.now) result (skip_nested (skip_item inner) initial bytes.now) }
 {
@@ -79,20 +81,42 @@ fn skip_elements_to_break(element: Element, bytes: &[u8], inner: u8) -> Result<&
 }
 
 #[cycle(item)]
+#[inline(always)]
 fn skip_element(element: Element, bytes: &[u8], inner: u8) -> Result<&[u8], Stop>
     ensures { Gives (λ rest. rest.now) result (element_of (skip_item inner) element bytes.now) }
 {
     match element {
-        Element::Item => skip_item(bytes, inner),
+        Element::Item => skip_held(bytes, inner),
         Element::Entry => {
-            let rest = skip_item(bytes, inner)?;
-            skip_item(rest, inner)
+            let rest = skip_held(bytes, inner)?;
+            skip_held(rest, inner)
         }
     }
 }
 
+// Passes over an item that stands in another. Most are a single byte, and then nothing is called.
+#[cycle(item)]
+#[inline(always)]
+fn skip_held(bytes: &[u8], depth: u8) -> Result<&[u8], Stop>
+    ensures { Gives (λ rest. rest.now) result (skip_item depth bytes.now) }
+{
+    match bytes {
+        [initial, rest @ ..] if is_small(*initial) => Ok(rest),
+        _ => skip_item(bytes, depth),
+    }
+}
+
+// Whether an item is its initial byte alone: a small number or a simple value.
+#[inline(always)]
+fn is_small(initial: u8) -> bool
+    ensures { result ≡ is_small initial }
+{
+    initial % 32 < 24 && matches!(initial / 32, 0 | 1 | 7)
+}
+
 // Passes over what stands behind the initial byte of an item that holds no other.
 #[tactic(auto, unfolding(crate::specs::Scan::skip_flat_content))]
+#[inline(always)]
 fn skip_flat(initial: u8, bytes: &[u8]) -> Result<&[u8], Stop>
     ensures { Gives (λ rest. rest.now) result (skip_flat initial bytes.now) }
 {
@@ -116,6 +140,7 @@ fn skip_bytes(count: u64, bytes: &[u8]) -> Result<&[u8], Stop>
 }
 
 // Passes over the chunks of an indefinite string, and over the break behind them.
+#[inline(never)]
 fn skip_chunks(major: u8, bytes: &[u8]) -> Result<&[u8], Stop>
     ensures { Gives (λ rest. rest.now) result (skip_to_break (skip_chunk major) (length bytes.now) bytes.now) }
 {

@@ -1,5 +1,3 @@
-ghost use Rattle.std.specs.Prelude.{◌≡◌};
-
 /// What is done to an item of a list where it stands.
 pub trait Change<T> {
     /// What is told of it.
@@ -11,6 +9,7 @@ pub trait Change<T> {
     /// What the item was before, what it is then, and what is told.
     ghost does: { Self → T → T → Self.Answer → Type 0 };
 
+    /// Does it. A list does it where the item stands, and gives the answer on.
     fn apply(self, item: &mut T) -> Self::Answer
         requires { may self item.old }
         ensures { does self item.old item.new result };

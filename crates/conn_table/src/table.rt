@@ -35,10 +35,7 @@ pub struct ConnTable {
 }
 
 impl Model for ConnTable {
-    ghost use Rattle.std.specs.Prelude.{◌≡◌};
-    ghost use Rattle.conn_table.specs.Index.{index_of};
     ghost use Rattle.conn_table.specs.Rosters.{IsSettled, facts_kept};
-    ghost use Rattle.conn_table.specs.Finds.{if_live};
     ghost use Rattle.conn_table.specs.Table.{Table};
 
     ghost Value = { Table };

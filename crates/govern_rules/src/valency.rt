@@ -125,6 +125,7 @@ fn task_of(valency: Valency) -> Task
 }
 
 // By how many members the valency is missed.
+#[inline(always)]
 fn number_of(valency: Valency, group: &Group, links: &LinkList, book: &PeerBook) -> u64
     ensures { result ≡ valency_number valency group.now links.now (lookups book.now group.now.members) }
 {

@@ -1,6 +1,6 @@
 -- The rows and the line agree: what that gives, and that it is kept by each change.
 use Rattle.std.proofs.Common.{◌≡◌, ℕ, ◌==◌, ◌&&◌, ◌||◌, Bool, true, false, not, cond, is_some, List, Some, None, refl, sym, ap, ◌∙◌, inl, inr}
-use Rattle.std.proofs.lemmas.Bool.{cases_Bool, and_parts, and_right, and_from, true≢false}
+use Rattle.std.proofs.lemmas.Bool.{cases_Bool, and_parts, and_right, and_from}
 use Rattle.net_base.specs.Timer.{deadline_before}
 use Rattle.net_base.specs.declared.connection.Cid.{Cid}
 use Rattle.net_base.specs.declared.timer.Deadline.{Deadline}

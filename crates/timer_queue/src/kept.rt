@@ -1,5 +1,5 @@
-ghost use Rattle.std.specs.Prelude.{◌≡◌, ◌<◌, ◌++◌, true, false, None, OnOk, OnErr, is_some, length};
-ghost use Rattle.timer_queue.specs.Rows.{row_at, place_at, with_row, timers_of, AreMomentsOf};
+ghost use Rattle.std.specs.Prelude.{◌≡◌, ◌<◌, ◌++◌, true, false, None, OnOk, OnErr, IfSome, IsSomeAnd, is_some, length};
+ghost use Rattle.timer_queue.specs.Rows.{row_at, place_at, with_at, with_row, timers_of, AreMomentsOf};
 ghost use Rattle.timer_queue.specs.Timers.{timer, least, HaveSame, without_cid};
 ghost use Rattle.timer_queue.specs.Queue.{is_enrolled, empty_queue, with_enrolled, with_timer, without_timer, without_connection, least_due, without_fired};
 
@@ -132,8 +132,7 @@ impl Kept {
         ensures queue { queue_of self.new ≡ with_timer (timer cid kind at) (queue_of self.old) }
     {
         let place = place_of(&self.rows, cid);
-        let row = self.rows[place].with(kind, Some(at));
-        self.put_row(place, row);
+        self.put_moment(cid, place, kind, Some(at));
     }
 
     // All six timers of a connection.
@@ -170,6 +169,21 @@ impl Kept {
         self.rows[place] = row;
     }
 
+    // The timer of a kind of a connection, whose row is at a place, is at another moment, or is set no more.
+    fn put_moment(&mut self, cid: Cid, place: usize, kind: Kind, at: Option<u64>)
+        requires kept { IsKept self.old }
+        requires place { place ≡ place_at cid self.old.rows.items }
+        requires idle { IsSomeAnd (row_at cid self.old.rows.items) (λ row. IsIdle (with_at kind at row)) }
+        ensures kept { IsKept self.new }
+        ensures rows { IfSome (row_at cid self.old.rows.items)
+            (λ row. self.new.rows.items ≡ with_row (with_at kind at row) self.old.rows.items) }
+    {
+        let row = &mut self.rows[place];
+        row.moments.replace(kind, at);
+        let key = row.key();
+        self.keys.put(place, key);
+    }
+
     pub fn clear(&mut self, cid: Cid, kind: Kind)
         requires { IsKept self.old }
         ensures kept { IsKept self.new }
@@ -178,8 +192,7 @@ impl Kept {
         let Some(place) = place_in(&self.rows, cid) else {
             return;
         };
-        let row = self.rows[place].with(kind, None);
-        self.put_row(place, row);
+        self.put_moment(cid, place, kind, None);
     }
 
     pub fn leave(&mut self, cid: Cid)

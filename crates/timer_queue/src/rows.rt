@@ -22,7 +22,7 @@ pub struct Row {
 impl Row {
     ghost use Rattle.timer_queue.specs.Kept.{IsOfWords};
     ghost use Rattle.timer_queue.specs.Keys.{key_in};
-    ghost use Rattle.timer_queue.specs.Rows.{empty_row, gone_row, with_at};
+    ghost use Rattle.timer_queue.specs.Rows.{empty_row, gone_row};
     ghost use Rattle.timer_queue.specs.Trees.{first_in, timer_in};
 
     pub fn empty(cid: Cid) -> Row
@@ -43,14 +43,6 @@ impl Row {
             enrolled: false,
             moments: Moments::none(),
         }
-    }
-
-    // The row with another moment for the timer of a kind, or with none.
-    pub fn with(mut self, kind: Kind, at: Option<u64>) -> Row
-        ensures { result ≡ with_at kind at self }
-    {
-        self.moments.replace(kind, at);
-        self
     }
 
     // Moment and id of its first timer, as one number.

@@ -1,4 +1,4 @@
-ghost use Rattle.std.specs.Prelude.{◌≡◌, ℕ, ◌<◌, List, [], ◌∷◌, ◌++◌, codes, length, Some, None, IfOk, OnOk, OnErr, Ok};
+ghost use Rattle.std.specs.Prelude.{◌≡◌, ℕ, ◌<◌, List, [], ◌∷◌, ◌++◌, codes, Some, None, IfOk, OnOk, OnErr, Ok};
 ghost use Rattle.io_edge.specs.Lines.{ended_lines};
 ghost use Rattle.line_run.specs.Meaning.{IsInterpreted};
 ghost use Rattle.machine.specs.Step.{step};

@@ -1,8 +1,9 @@
-use Rattle.std.proofs.Common.{◌<◌, length, refl, sym, ap, arith}
+use Rattle.std.proofs.Common.{◌<◌, length, refl, sym, ap, ◌∙◌, arith}
 use Rattle.std.proofs.lemmas.Result.{err_from_is_err_and}
 use Rattle.cbor_items.specs.Scan.{skip_item}
 use Rattle.cbor_items.specs.Element.{element_of}
 use Rattle.cbor_items.proofs.Loops.{row_goes_on, row_stops, row_is_done, break_is_missing, break_is_found, break_goes_on, break_stops, break_is_out, item_stops, item_is_flat, item_is_nested, item_is_too_deep}
+use Rattle.cbor_items.proofs.Small.{first_is_passed}
 use Rattle.cbor_items.proofs.item.+item.Goals as goal
 
 pub skip_elements-returns-in_err-rest : goal.skip_elements-returns-in_err-rest
@@ -70,3 +71,7 @@ skip_item-returns-in-None t c =
 pub skip_item-returns-in-Some : goal.skip_item-returns-in-Some
 skip_item-returns-in-Some t c =
     rw (item_is_nested c.args.depth c.args.bytes.now c.in_ok-initial.initial c.in_ok-initial.rest.now c.in-Some.inner c.in_ok-initial.ensures (sym c.if-not-is_nested.ensures) c.in-Some.ensures.0 c.in-Some.ensures.1) c.skip_nested.ensures
+
+pub skip_held-returns-in-len1-up : goal.skip_held-returns-in-len1-up
+skip_held-returns-in-len1-up t c =
+    first_is_passed c.args.depth c.args.bytes.now c.in-len1-up.len_at_least (sym c.is_small.ensures ∙ c.if-is_small.true)

@@ -4,19 +4,22 @@ use Rattle.cbor_items.specs.Element.{element_of}
 use Rattle.cbor_items.proofs.item.+item.Given as goal
 
 abbrev pub decreases-skip_item : goal.decreases-skip_item
-decreases-skip_item l = 4 * l.depth
+decreases-skip_item l = 5 * l.depth
 
 abbrev pub decreases-skip_nested : goal.decreases-skip_nested
-decreases-skip_nested l = 4 * l.inner + 3
+decreases-skip_nested l = 5 * l.inner + 4
 
 abbrev pub decreases-skip_elements : goal.decreases-skip_elements
-decreases-skip_elements l = 4 * l.inner + 2
+decreases-skip_elements l = 5 * l.inner + 3
 
 abbrev pub decreases-skip_elements_to_break : goal.decreases-skip_elements_to_break
-decreases-skip_elements_to_break l = 4 * l.inner + 2
+decreases-skip_elements_to_break l = 5 * l.inner + 3
 
 abbrev pub decreases-skip_element : goal.decreases-skip_element
-decreases-skip_element l = 4 * l.inner + 1
+decreases-skip_element l = 5 * l.inner + 2
+
+abbrev pub decreases-skip_held : goal.decreases-skip_held
+decreases-skip_held l = 5 * l.depth + 1
 
 abbrev pub invariant-skip_elements-loop : goal.invariant-skip_elements-loop
 invariant-skip_elements-loop l =

@@ -1,8 +1,7 @@
-use Rattle.std.proofs.Common.{◌≡◌, List, None, is_some, ap, sym, subst, ◌∙◌, arith}
-use Rattle.std.proofs.lemmas.Option.{slice_get_within, get_or_from_slice_get}
+use Rattle.std.proofs.Common.{◌≡◌, List, None, IfSome, IsSomeAnd, ap, sym, subst, ◌∙◌}
 use Rattle.net_base.specs.declared.connection.Cid.{Cid}
 use Rattle.timer_queue.specs.Kept.{IsIdle, queue_of}
-use Rattle.timer_queue.specs.Rows.{row_at, place_at, with_at, with_row}
+use Rattle.timer_queue.specs.Rows.{with_at, with_row}
 use Rattle.timer_queue.specs.Timers.{without_kind}
 use Rattle.timer_queue.specs.declared.rows.Row.{Row}
 use Rattle.timer_queue.proofs.Enrolled.{enrolled_in, enrolled-is, ids_of, ids-same}
@@ -10,7 +9,7 @@ use Rattle.timer_queue.proofs.Orderly.{nothing_to_clear, orderly_when_kept}
 use Rattle.timer_queue.proofs.Puts.{timers-cleared, idle-cleared}
 use Rattle.timer_queue.proofs.RowEdits.{StandsAt, stands_as_found, missing}
 use Rattle.timer_queue.proofs.TimersOf.{timers_of}
-use Rattle.timer_queue.proofs.kept.Kept.clear.Goals.{In-Some, After-with-row}
+use Rattle.timer_queue.proofs.kept.Kept.clear.Goals.{In-Some}
 use Rattle.timer_queue.proofs.kept.Kept.clear.Goals as goal
 
 pub returns-in_default-clause-queue : goal.returns-in_default-clause-queue
@@ -28,42 +27,20 @@ stands : (c : In-Some) → StandsAt c.args.cid (before c) c.in-Some.place
 stands c =
     stands_as_found c.args.cid (before c) c.deref.result.now c.in-Some.place c.place_in.result c.requires.rise c.deref.ensures.value c.place_in.ensures c.in-Some.is
 
-pub index-requires : goal.index-requires
-index-requires c =
-    let s = stands (goal.at.index-requires c).In-Some in
-    omega (arith, c.args.self.now.rows.ok, slice_get_within c.args.self.now.rows.items c.in-Some.place s.row s.here)
-
-its : (c : After-with-row) (s : StandsAt c.args.cid c.args.self.now.rows.items c.in-Some.place) → c.with-row.result ≡ with_at c.args.kind None s.row
-its c s =
-    c.with-row.ensures ∙ ap (with_at c.args.kind None)
-    (c.index.ensures ∙ get_or_from_slice_get c.args.self.now.rows.items c.in-Some.place s.row c.index.result.now s.here)
-
-pub put_row-requires-clause-there : goal.put_row-requires-clause-there
-put_row-requires-clause-there c =
-    let d = goal.at.put_row-requires-clause-there c in
-    let s = stands d.In-Some in
-    ap (λ (r : Row). is_some (row_at r.cid c.args.self.now.rows.items)) (its d.After-with-row s) ∙ ap is_some s.found
-
-pub put_row-requires-clause-place : goal.put_row-requires-clause-place
-put_row-requires-clause-place c =
-    let d = goal.at.put_row-requires-clause-place c in
-    let s = stands d.In-Some in
-    s.at ∙ ap (λ (r : Row). place_at r.cid c.args.self.now.rows.items) (sym (its d.After-with-row s))
-
-pub put_row-requires-clause-idle : goal.put_row-requires-clause-idle
-put_row-requires-clause-idle c =
-    let d = goal.at.put_row-requires-clause-idle c in
-    let rows : List Row = c.args.self.now.rows.items in
-    let s = stands d.In-Some in
-    subst IsIdle (sym (its d.After-with-row s)) (idle-cleared s.row c.args.kind rows c.requires.idle s.found)
+pub put_moment-requires-clause-idle : goal.put_moment-requires-clause-idle
+put_moment-requires-clause-idle c =
+    let s = stands (goal.at.put_moment-requires-clause-idle c).In-Some in
+    subst (λ o. IsSomeAnd o (λ row. IsIdle (with_at c.args.kind None row))) (sym s.there)
+    (idle-cleared s.row c.args.kind c.args.self.now.rows.items c.requires.idle s.found)
 
 pub returns-clause-queue : goal.returns-clause-queue
 returns-clause-queue c =
-    let d = goal.at.returns-clause-queue c in
+    let d = (goal.at.returns-clause-queue c).In-Some in
     let rows : List Row = c.args.self.now.rows.items in
-    let s = stands d.In-Some in
+    let s = stands d in
     let new : Row = with_at c.args.kind None s.row in
-    let is : c.put_row.new.self.rows.items ≡ with_row new rows = c.put_row.ensures.rows ∙ ap (λ r. with_row r rows) (its d.After-with-row s) in
+    let is : c.put_moment.new.self.rows.items ≡ with_row new rows =
+    subst (λ o. IfSome o (λ row. c.put_moment.new.self.rows.items ≡ with_row (with_at c.args.kind None row) rows)) s.there c.put_moment.ensures.rows in
     let rise = c.requires.rise in
     let ids = ap ids_of is ∙ ids-same s.row new rows rise s.found (λ i. s.row.enrolled) in
     let timers = ap timers_of is
