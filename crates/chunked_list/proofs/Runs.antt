@@ -1,7 +1,7 @@
 -- The items from a spot to the end of its chunk.
 use Rattle.std.proofs.Common.{◌≡◌, ℕ, zero, suc, ◌+◌, ◌<◌, ◌≤◌, List, [], ◌∷◌, ◌++◌, length, take, drop, get_or, sym, ap, ◌∙◌, length-append, arith}
 use Rattle.std.proofs.Math.Seq.{drop-append-add, take-append_seam}
-use Rattle.std.proofs.lemmas.List.{drop-append-le}
+use Rattle.std.proofs.lemmas.List.{drop-append-le, get_or-drop, get_or-take, length-drop, length-take}
 use Rattle.chunked_list.specs.Chunks.{items_in, joined}
 use Rattle.chunked_list.specs.declared.chunk.Chunk.{Chunk}
 
@@ -25,3 +25,11 @@ module _ {T : Type 0} where
       run ≡ drop at (items_in (get_or cs i d)) → run ≡ take (length run) (drop (length (joined (take i cs)) + at) (joined cs))
   run_is cs i at d inside upto run is =
       sym (ap (take (length run)) (behind cs i at d inside upto ∙ ap (λ l. l ++ joined (drop (suc i) cs)) (sym is)) ∙ take-append_seam run (joined (drop (suc i) cs)))
+
+  -- an item of those from a place on
+  pub run_at : (xs run : List T) (n i : ℕ) (d : T) → run ≡ take (length run) (drop n xs) → i < length run → get_or xs (n + i) d ≡ get_or run i d
+  run_at xs run n i d front inside =
+      sym (get_or-drop n xs i d) ∙ (sym (get_or-take (length run) (drop n xs) i d inside) ∙ ap (λ l. get_or l i d) (sym front))
+
+  pub run_within : (xs run : List T) (n i : ℕ) → run ≡ take (length run) (drop n xs) → i < length run → n + i < length xs
+  run_within xs run n i front inside = omega (arith, ap length front, length-take (length run) (drop n xs), length-drop n xs, inside)

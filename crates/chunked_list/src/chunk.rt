@@ -7,6 +7,8 @@ use net_base::OutOfMemory;
 pub const LIMIT: usize = 32;
 // How many items a full chunk keeps where it is cut in two.
 pub const HALF: usize = 16;
+// How many items a chunk has at most whose neighbours are looked at for joining, after a removal.
+pub const FEW: usize = 8;
 // How many items two neighbours have at most that are joined.
 pub const JOINED: usize = 24;
 

@@ -4,7 +4,7 @@ ghost use Rattle.chunked_list.specs.Changes.{IsChangedAt};
 ghost use Rattle.chunked_list.specs.Chunks.{items_in, joined, starts, AreChunks, AreFilled, CanJoin, IsInside, HasRoom, IsSplit, place_of};
 
 use crate::change::Change;
-use crate::chunk::{Chunk, HALF, JOINED, LIMIT};
+use crate::chunk::{Chunk, FEW, HALF, JOINED, LIMIT};
 use crate::first::{lower, raise};
 use crate::spot::{Spot, halved, spot_of};
 use net_base::OutOfMemory;
@@ -14,13 +14,13 @@ use std::mem;
 // Puts an item in before the one at a spot, where its chunk has room.
 fn put<T: Drop>(
     chunks: &mut Vec<Chunk<T>>,
-    firsts: &mut Vec<usize>,
+    firsts: &mut Vec<u32>,
     spot: Spot,
     item: T,
 ) -> Result<(), OutOfMemory>
     requires filled { AreFilled chunks.old.items }
     requires numbers { firsts.old.items ≡ starts 0 chunks.old.items }
-    requires few { length (joined chunks.old.items) + 1 < 2 ^ 64 }
+    requires few { length (joined chunks.old.items) + 1 < 2 ^ 32 }
     requires inside { IsInside chunks.old.items spot }
     requires room { HasRoom chunks.old.items spot.chunk }
     ensures filled { AreFilled chunks.new.items }
@@ -36,12 +36,12 @@ fn put<T: Drop>(
 // Makes room in the chunk of a spot: a full one is cut in two. The answer is the spot after that.
 fn make_room<T: Drop>(
     chunks: &mut Vec<Chunk<T>>,
-    firsts: &mut Vec<usize>,
+    firsts: &mut Vec<u32>,
     spot: Spot,
 ) -> Result<Spot, AllocError>
     requires filled { AreFilled chunks.old.items }
     requires numbers { firsts.old.items ≡ starts 0 chunks.old.items }
-    requires few { length (joined chunks.old.items) < 2 ^ 64 }
+    requires few { length (joined chunks.old.items) < 2 ^ 32 }
     requires inside { IsInside chunks.old.items spot }
     ensures filled { AreFilled chunks.new.items }
     ensures numbers { firsts.new.items ≡ starts 0 chunks.new.items }
@@ -56,7 +56,7 @@ fn make_room<T: Drop>(
     firsts.try_reserve(1)?;
     split(chunks, spot.chunk)?;
     // there is room
-    let _ = firsts.insert(spot.chunk + 1, firsts[spot.chunk] + HALF);
+    let _ = firsts.insert(spot.chunk + 1, firsts[spot.chunk] + HALF as u32);
     Ok(halved(spot))
 }
 
@@ -99,13 +99,14 @@ fn push_within<T: Drop>(chunks: &mut Vec<Chunk<T>>, last: usize, item: T) -> Res
 // Puts a chunk of one item behind the others, which have as many items as `len` says.
 fn push_chunk<T: Drop>(
     chunks: &mut Vec<Chunk<T>>,
-    firsts: &mut Vec<usize>,
+    firsts: &mut Vec<u32>,
     len: usize,
     item: T,
 ) -> Result<(), OutOfMemory>
     requires filled { AreFilled chunks.old.items }
     requires numbers { firsts.old.items ≡ starts 0 chunks.old.items }
     requires len { len ≡ length (joined chunks.old.items) }
+    requires few { len < 2 ^ 32 }
     ensures filled { AreFilled chunks.new.items }
     ensures numbers { firsts.new.items ≡ starts 0 chunks.new.items }
     ensures ok { OnOk result (joined chunks.new.items ≡ joined chunks.old.items ++ item ∷ []) }
@@ -116,12 +117,12 @@ fn push_chunk<T: Drop>(
     items.push(item)?;
     chunks.push(Chunk { items })?;
     // there is room
-    let _ = firsts.push(len);
+    let _ = firsts.push(len as u32);
     Ok(())
 }
 
 // Takes out the item at a spot. A chunk that gets empty goes.
-fn take_out<T: Drop>(chunks: &mut Vec<Chunk<T>>, firsts: &mut Vec<usize>, spot: Spot) -> T
+fn take_out<T: Drop>(chunks: &mut Vec<Chunk<T>>, firsts: &mut Vec<u32>, spot: Spot) -> T
     requires filled { AreFilled chunks.old.items }
     requires numbers { firsts.old.items ≡ starts 0 chunks.old.items }
     requires inside { IsInside chunks.old.items spot }
@@ -140,7 +141,7 @@ fn take_out<T: Drop>(chunks: &mut Vec<Chunk<T>>, firsts: &mut Vec<usize>, spot: 
 }
 
 // Joins the chunk at a place with the one behind it, where the two can be one.
-fn join_next<T: Drop>(chunks: &mut Vec<Chunk<T>>, firsts: &mut Vec<usize>, place: usize)
+fn join_next<T: Drop>(chunks: &mut Vec<Chunk<T>>, firsts: &mut Vec<u32>, place: usize)
     requires filled { AreFilled chunks.old.items }
     requires numbers { firsts.old.items ≡ starts 0 chunks.old.items }
     ensures filled { AreFilled chunks.new.items }
@@ -183,14 +184,14 @@ pub fn exchange<T: Drop>(chunks: &mut Vec<Chunk<T>>, spot: Spot, item: T) -> T
 // Puts an item in at a place of the list.
 pub fn insert_at<T: Drop>(
     chunks: &mut Vec<Chunk<T>>,
-    firsts: &mut Vec<usize>,
+    firsts: &mut Vec<u32>,
     place: usize,
     len: usize,
     item: T,
 ) -> Result<(), OutOfMemory>
     requires kept { AreChunks chunks.old.items firsts.old.items }
     requires len { len ≡ length (joined chunks.old.items) }
-    requires few { len + 1 < 2 ^ 64 }
+    requires few { len + 1 < 2 ^ 32 }
     requires upto { place ≤ len }
     ensures kept { AreChunks chunks.new.items firsts.new.items }
     ensures ok { OnOk result (joined chunks.new.items ≡ insert (joined chunks.old.items) place item) }
@@ -206,12 +207,13 @@ pub fn insert_at<T: Drop>(
 // Puts an item in at the end of the list, which has as many items as `len` says.
 fn append<T: Drop>(
     chunks: &mut Vec<Chunk<T>>,
-    firsts: &mut Vec<usize>,
+    firsts: &mut Vec<u32>,
     len: usize,
     item: T,
 ) -> Result<(), OutOfMemory>
     requires kept { AreChunks chunks.old.items firsts.old.items }
     requires len { len ≡ length (joined chunks.old.items) }
+    requires few { len < 2 ^ 32 }
     ensures kept { AreChunks chunks.new.items firsts.new.items }
     ensures ok { OnOk result (joined chunks.new.items ≡ joined chunks.old.items ++ item ∷ []) }
     ensures err { OnErr result (joined chunks.new.items ≡ joined chunks.old.items) }
@@ -225,13 +227,13 @@ fn append<T: Drop>(
 // Puts an item in before the one at a spot.
 fn put_in<T: Drop>(
     chunks: &mut Vec<Chunk<T>>,
-    firsts: &mut Vec<usize>,
+    firsts: &mut Vec<u32>,
     spot: Spot,
     item: T,
 ) -> Result<(), OutOfMemory>
     requires filled { AreFilled chunks.old.items }
     requires numbers { firsts.old.items ≡ starts 0 chunks.old.items }
-    requires few { length (joined chunks.old.items) + 1 < 2 ^ 64 }
+    requires few { length (joined chunks.old.items) + 1 < 2 ^ 32 }
     requires inside { IsInside chunks.old.items spot }
     ensures filled { AreFilled chunks.new.items }
     ensures numbers { firsts.new.items ≡ starts 0 chunks.new.items }
@@ -242,8 +244,17 @@ fn put_in<T: Drop>(
     put(chunks, firsts, spot, item)
 }
 
+// Whether the chunk at a place has so few items that its neighbours are looked at for joining. So it is where the last
+// chunk went.
+fn has_few<T>(chunks: &[Chunk<T>], place: usize) -> bool {
+    match chunks.get(place) {
+        Some(chunk) => chunk.items.len() <= FEW,
+        None => true,
+    }
+}
+
 // Takes out the item at a place of the list.
-pub fn remove_at<T: Drop>(chunks: &mut Vec<Chunk<T>>, firsts: &mut Vec<usize>, place: usize) -> T
+pub fn remove_at<T: Drop>(chunks: &mut Vec<Chunk<T>>, firsts: &mut Vec<u32>, place: usize) -> T
     requires kept { AreChunks chunks.old.items firsts.old.items }
     requires inside { place < length (joined chunks.old.items) }
     ensures kept { AreChunks chunks.new.items firsts.new.items }
@@ -252,8 +263,10 @@ pub fn remove_at<T: Drop>(chunks: &mut Vec<Chunk<T>>, firsts: &mut Vec<usize>, p
 {
     let spot = spot_of(chunks, firsts, place);
     let item = take_out(chunks, firsts, spot);
-    join_next(chunks, firsts, spot.chunk);
-    join_next(chunks, firsts, spot.chunk.saturating_sub(1));
+    if has_few(chunks, spot.chunk) {
+        join_next(chunks, firsts, spot.chunk);
+        join_next(chunks, firsts, spot.chunk.saturating_sub(1));
+    }
     item
 }
 

@@ -14,12 +14,15 @@ use net_base::OutOfMemory;
 use std::alloc::{AllocError, Global};
 use std::marker::Model;
 
+// How many items a list has at most, so that each number of `firsts` is a word of 32 bits.
+const MOST: usize = 4_294_967_295;
+
 /// Items one after another. Contracts see the list of them.
 #[derive(Drop)]
 pub struct ChunkedList<T> {
     chunks: Vec<Chunk<T>>,
     // how many items stand before each chunk
-    firsts: Vec<usize>,
+    firsts: Vec<u32>,
     len: usize,
 }
 
@@ -101,6 +104,26 @@ impl<T> ChunkedList<T> {
         }
         point_in(&self.chunks, &self.firsts, pred)
     }
+
+    /// The same, where a place is tried first: the items before and at it tell whether it is right. It may be any number,
+    /// and spares the search where it is right.
+    pub fn partition_point_near<P: Fn(&T) -> bool>(&self, near: usize, pred: P) -> usize
+        requires { P.IsAlwaysCallable pred }
+        ensures bound { result ≤ length self.now }
+        ensures partitioned { (p : T → Bool) → ComputesKey P.FnMut p pred → IsPartitionedBy p self.now → IsPartitionPoint (λ y. p y ≡ true) (λ y. p y ≡ false) self.now result }
+    {
+        let run = self.run_from(near.saturating_sub(1));
+        if near == 0 {
+            return match run {
+                [next, ..] if !pred(next) => 0,
+                _ => self.partition_point(pred),
+            };
+        }
+        match run {
+            [last, next, ..] if pred(last) && !pred(next) => near,
+            _ => self.partition_point(pred),
+        }
+    }
 }
 
 impl<T: Copy> ChunkedList<T> {
@@ -130,19 +153,22 @@ impl<T: Copy + Drop> ChunkedList<T> {
 }
 
 impl<T: Drop> ChunkedList<T> {
-    /// Puts an item in before the one at a place, or at the end. A refusal changes nothing.
+    /// Puts an item in before the one at a place, or at the end. A refusal changes nothing. A list of 2^32 - 1 items takes
+    /// no more, and answers so with `OutOfMemory`.
     pub fn insert(&mut self, place: usize, item: T) -> Result<(), OutOfMemory>
         requires { place ≤ length self.old }
         ensures ok { OnOk result (self.new ≡ insert self.old place item) }
         ensures err { OnErr result (self.new ≡ self.old) }
     {
-        let len = self.len.checked_add(1).ok_or(OutOfMemory)?;
+        if self.len >= MOST {
+            return Err(OutOfMemory);
+        }
         insert_at(&mut self.chunks, &mut self.firsts, place, self.len, item)?;
-        self.len = len;
+        self.len += 1;
         Ok(())
     }
 
-    /// Puts an item at the end. A refusal changes nothing.
+    /// Puts an item at the end, as `insert` does. A refusal changes nothing.
     pub fn push(&mut self, item: T) -> Result<(), OutOfMemory>
         ensures ok { OnOk result (self.new ≡ self.old ++ item ∷ []) }
         ensures err { OnErr result (self.new ≡ self.old) }

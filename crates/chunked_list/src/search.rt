@@ -7,7 +7,7 @@ use crate::chunk::Chunk;
 use crate::point::point_of;
 
 // How many items pass, where those that do stand before the others.
-pub fn point_in<T, P: Fn(&T) -> bool>(chunks: &[Chunk<T>], firsts: &[usize], pred: P) -> usize
+pub fn point_in<T, P: Fn(&T) -> bool>(chunks: &[Chunk<T>], firsts: &[u32], pred: P) -> usize
     requires kept { AreChunks chunks.now firsts.now }
     requires few { length (joined chunks.now) < 2 ^ 64 }
     requires callable { P.IsAlwaysCallable pred }
@@ -29,5 +29,5 @@ pub fn point_in<T, P: Fn(&T) -> bool>(chunks: &[Chunk<T>], firsts: &[usize], pre
     let Some(last) = begun.checked_sub(1) else {
         return 0;
     };
-    firsts[last] + chunks[last].items.partition_point(pred)
+    firsts[last] as usize + chunks[last].items.partition_point(pred)
 }

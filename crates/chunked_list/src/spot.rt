@@ -12,7 +12,7 @@ pub struct Spot {
 }
 
 // Where the item at a place of the list stands.
-pub fn spot_of<T>(chunks: &[Chunk<T>], firsts: &[usize], place: usize) -> Spot
+pub fn spot_of<T>(chunks: &[Chunk<T>], firsts: &[u32], place: usize) -> Spot
     requires kept { AreChunks chunks.now firsts.now }
     requires inside { place < length (joined chunks.now) }
     ensures inside { IsInside chunks.now result }
@@ -21,7 +21,7 @@ pub fn spot_of<T>(chunks: &[Chunk<T>], firsts: &[usize], place: usize) -> Spot
     let chunk = begun_by(firsts, place) - 1;
     Spot {
         chunk,
-        at: place - firsts[chunk],
+        at: place - firsts[chunk] as usize,
     }
 }
 

@@ -109,28 +109,32 @@ impl Connections {
         self.kept.roster.facts(cid).copied()
     }
 
-    /// The live connection of an address. None where there is none.
-    pub fn live(&self, addr: Addr) -> Option<Facts>
-        ensures value { result ≡ option_map (λ e. e.facts) (live_entry addr self.now) }
-        ensures by_id { IfSome (live_entry addr self.now) (λ e. entry_with e.facts.cid.0 self.now ≡ Some e) }
+    /// The live connection of an address, so that one more of the address is let in after a short search. None where there is
+    /// none.
+    pub fn live(&mut self, addr: Addr) -> Option<Facts>
+        ensures value { result ≡ option_map (λ e. e.facts) (live_entry addr self.old) }
+        ensures by_id { IfSome (live_entry addr self.old) (λ e. entry_with e.facts.cid.0 self.old ≡ Some e) }
+        ensures same { self.new ≡ self.old }
     {
-        live_in(&self.links, &self.kept.roster, addr)
+        live_in(&mut self.links, &self.kept.roster, addr)
     }
 
-    /// The live connection of an address, where this node uses it.
-    pub fn used(&self, addr: Addr) -> Option<Facts>
-        ensures value { result ≡ option_map (λ e. e.facts) (used_entry addr self.now) }
-        ensures by_id { IfSome (used_entry addr self.now) (λ e. entry_with e.facts.cid.0 self.now ≡ Some e) }
+    /// The same, where this node uses it.
+    pub fn used(&mut self, addr: Addr) -> Option<Facts>
+        ensures value { result ≡ option_map (λ e. e.facts) (used_entry addr self.old) }
+        ensures by_id { IfSome (used_entry addr self.old) (λ e. entry_with e.facts.cid.0 self.old ≡ Some e) }
+        ensures same { self.new ≡ self.old }
     {
-        if_used(live_in(&self.links, &self.kept.roster, addr))
+        if_used(live_in(&mut self.links, &self.kept.roster, addr))
     }
 }
 
 // The live connection of an address, whose last link tells which it may be.
-fn live_in(links: &Links, roster: &Roster, addr: Addr) -> Option<Facts>
+fn live_in(links: &mut Links, roster: &Roster, addr: Addr) -> Option<Facts>
     requires kept { IsKept roster.now }
-    requires last { AreInOrder links.now → last_at addr (map place_of links.now) ≡ option_map placed_of (newest addr (facts_kept roster.now)) }
-    ensures { result ≡ live_at addr (facts_kept roster.now) }
+    requires last { AreInOrder links.old → last_at addr (map place_of links.old) ≡ option_map placed_of (newest addr (facts_kept roster.now)) }
+    ensures value { result ≡ live_at addr (facts_kept roster.now) }
+    ensures same { links.new ≡ links.old }
 {
     let last = links.last_at(addr)?;
     let place = roster.if_live(last)?;

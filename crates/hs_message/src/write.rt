@@ -10,6 +10,9 @@ use cbor_items::{ARRAY, FALSE, MAP, NUMBER, TEXT, TRUE, write_head};
 use net_base::{Octets, OutOfMemory};
 use std::alloc::Global;
 
+// Most messages have no more bytes.
+const MOSTLY: usize = 32;
+
 /// The one spelling of a message between nodes. Each info has to be known and to stand with version 13 or 14, and the
 /// versions of a table have to rise strictly.
 #[tactic(auto, unfolding(crate::specs::Canonical::node_spelling))]
@@ -17,7 +20,7 @@ pub fn write_message(alloc: Global, message: &Message) -> Result<Octets, OutOfMe
     requires { CanWrite message.now }
     ensures { IfOk result (λ octets. octets ≡ node_spelling message.now) }
 {
-    let mut out = Octets::new(alloc);
+    let mut out = Octets::from_vec(Vec::with_capacity(alloc, MOSTLY)?);
     put_message(&mut out, Profile::NodeToNode, message)?;
     Ok(out)
 }
@@ -30,7 +33,7 @@ pub fn write_client_message(alloc: Global, message: &Message) -> Result<Octets, 
     requires { CanWriteToClient message.now }
     ensures { IfOk result (λ octets. octets ≡ client_spelling message.now) }
 {
-    let mut out = Octets::new(alloc);
+    let mut out = Octets::from_vec(Vec::with_capacity(alloc, MOSTLY)?);
     put_message(&mut out, Profile::NodeToClient, message)?;
     Ok(out)
 }

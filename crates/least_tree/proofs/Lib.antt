@@ -1,4 +1,5 @@
 pub mod KeyOrder
+pub mod Lasts
 pub mod Over
 pub mod Raising
 pub mod Rooms

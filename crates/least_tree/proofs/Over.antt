@@ -2,7 +2,7 @@
 use Rattle.std.proofs.Common.{◌≡◌, ℕ, zero, suc, ◌+◌, ◌-◌, ◌*◌, ◌<◌, ◌≤◌, List, [], ◌∷◌, ◌++◌, map, length, set, take, drop, replicate, refl, sym, ap, ◌∙◌, arith}
 use Rattle.std.specs.List.{insert}
 use Rattle.std.proofs.lemmas.List.{append_assoc, drop-append-le, length-append, length-map, length-replicate, length-set, length-take-le, map-append, map-set, take-append-le}
-use Rattle.least_tree.specs.Numbers.{none, with_room}
+use Rattle.least_tree.specs.Numbers.{none, IsLaid}
 use Rattle.least_tree.proofs.Rooms.{length-insert}
 
 set-front : (xs ys : List ℕ) (i v : ℕ) → i < length xs → set (xs ++ ys) i v ≡ set xs i v ++ ys
@@ -119,17 +119,5 @@ module _ {X : Type 0} (key_in : X → ℕ) where
 
   -- ---- all anew
 
-  pub length-anew : (rows : List X) (keys : List ℕ) → keys ≡ with_room (map key_in rows) → length keys ≡ 2 * length rows + 16
-  length-anew rows keys is =
-      omega (
-        arith,
-        ap length is,
-        length-append (map key_in rows) (replicate (length (map key_in rows) + 16) none),
-        length-replicate (length (map key_in rows) + 16) none,
-        length-map rows key_in,
-      )
-
-  pub over-anew : (rows : List X) (keys : List ℕ) → keys ≡ with_room (map key_in rows) → IsOver rows keys
-  over-anew rows keys is =
-      let left : length (map key_in rows) + 16 ≡ length keys - length rows = omega (arith, length-anew rows keys is, length-map rows key_in) in
-      is ∙ ap (λ n. map key_in rows ++ replicate n none) left
+  pub over-anew : (rows : List X) (keys : List ℕ) → IsLaid (map key_in rows) keys → IsOver rows keys
+  over-anew rows keys is = is ∙ ap (λ n. map key_in rows ++ replicate (length keys - n) none) (length-map rows key_in)

@@ -3,18 +3,23 @@ use Rattle.std.proofs.Common.{◌≡◌, ℕ, ◌+◌, ◌-◌, ◌*◌, ◌<◌
 use Rattle.std.proofs.lemmas.List.{drop_at, drop-append-le, drop-drop, drop-replicate, drop-take, length-append, length-drop, length-replicate, length-take-le, take_at, take-append-drop, take-append-le, append_assoc}
 use Rattle.std.specs.List.{insert}
 use borrow.Rule.Slice.PartMut.{put_mid}
-use Rattle.least_tree.specs.Numbers.{none, with_room}
+use Rattle.least_tree.specs.Numbers.{none, IsLaid}
 
-pub laid : (xs ys zs : List ℕ) (size k : ℕ) → size ≡ 2 * length ys + 16 → k ≡ length ys → xs ≡ replicate (2 * size) none → zs ≡ ys →
-    drop size (put_mid size k xs zs) ≡ with_room ys
-laid xs ys zs size k is count all same =
+pub laid : (xs ys zs : List ℕ) (size k : ℕ) → length ys ≤ size → k ≡ length ys → xs ≡ replicate (2 * size) none → zs ≡ ys →
+    drop size (put_mid size k xs zs) ≡ ys ++ replicate (size - length ys) none
+laid xs ys zs size k fits count all same =
     let long : size ≤ length xs = omega (arith, ap length all, length-replicate (2 * size) none) in
-    let left : 2 * size - size - k ≡ length ys + 16 = omega (arith, is, count) in
+    let left : 2 * size - size - k ≡ size - length ys = omega (arith, fits, count) in
     drop_at (take size xs) (zs ++ drop k (drop size xs)) size (length-take-le size xs long)
     ∙ (ap (λ l. l ++ drop k (drop size xs)) same
     ∙ ap (λ l. ys ++ l)
     (ap (λ l. drop k (drop size l)) all
     ∙ (ap (drop k) (drop-replicate size (2 * size) none) ∙ (drop-replicate k (2 * size - size) none ∙ ap (λ n. replicate n none) left))))
+
+pub are_laid : (ns row : List ℕ) (n : ℕ) → row ≡ ns ++ replicate n none → IsLaid ns row
+are_laid ns row n is =
+    let left : n ≡ length row - length ns = omega (arith, ap length is, length-append ns (replicate n none), length-replicate n none) in
+    is ∙ ap (λ k. ns ++ replicate k none) left
 
 -- ---- one is put in, and the last drops out
 

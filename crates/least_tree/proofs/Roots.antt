@@ -1,5 +1,5 @@
 -- The root of a tree is the least of the leaves.
-use Rattle.std.proofs.Common.{◌≡◌, ℕ, zero, suc, ◌+◌, ◌-◌, ◌*◌, ◌/◌, ◌<◌, ◌≤◌, min, List, [], ◌∷◌, length, drop, get_or, ap, inl, inr, arith}
+use Rattle.std.proofs.Common.{◌≡◌, ℕ, zero, suc, ◌+◌, ◌-◌, ◌*◌, ◌/◌, ◌<◌, ◌≤◌, min, List, [], ◌∷◌, length, drop, get_or, refl, ap, inl, inr, arith}
 use Rattle.std.proofs.lemmas.Bool.{cases_lt, cases_order}
 use Rattle.std.proofs.lemmas.List.{get_or-drop, length-drop}
 use Rattle.least_tree.specs.Nodes.{at, made, IsTree}
@@ -19,6 +19,14 @@ over_least : (m : ℕ) (ns : List ℕ) → m ≤ none → ((i : ℕ) → i < len
 over_least m [] some each = some
 over_least m (n ∷ ns) some each =
     min_over m n (least_of ns) (each 0 (omega arith)) (over_least m ns some (λ i h. each (suc i) (omega (arith, h))))
+
+-- where there is a number
+over_some : (m : ℕ) (ns : List ℕ) → least_of ns < none → ((i : ℕ) → i < length ns → m ≤ get_or ns i 0) → m ≤ least_of ns
+over_some m [] some each = absurd (omega (arith, some))
+over_some m (n ∷ ns) some each = elim (cases_lt (least_of ns) none) [
+  | inl more ↦ min_over m n (least_of ns) (each 0 (omega arith)) (over_some m ns more (λ i h. each (suc i) (omega (arith, h))))
+  | inr none_left ↦ let first = each 0 (omega arith) in omega (arith, first, some, none_left)
+]
 
 -- ---- of a tree
 
@@ -72,3 +80,24 @@ module _ (size : ℕ) (nodes : List ℕ) (even : length nodes ≡ 2 * size) (tre
       let under = under_root (size + i) (size + i) (omega arith) (omega (arith, some)) (omega (arith, inside)) in
       omega (arith, there, under)) in
       omega (arith, low, high)
+
+  pub root_when_some : 1 ≤ size → least_of (drop size nodes) < none → at nodes 1 ≡ least_of (drop size nodes)
+  root_when_some some number =
+      let low = over_node (2 * size) 1 (omega arith) (omega arith) (omega (arith, some)) in
+      let high = over_some (at nodes 1) (drop size nodes) number (λ i h.
+      let inside : i < size = omega (arith, h, length-drop size nodes, even) in
+      let there = get_or-drop size nodes i 0 in
+      let under = under_root (size + i) (size + i) (omega arith) (omega (arith, some)) (omega (arith, inside)) in
+      omega (arith, there, under)) in
+      omega (arith, low, high)
+
+  -- no numbers, no least one
+  pub some_nodes : least_of (drop size nodes) < none → 1 ≤ size
+  some_nodes number = elim (cases_lt 0 size) [
+    | inl some ↦ omega (arith, some)
+    | inr empty ↦ absurd (omega (arith, ap least_of (empty_row (drop size nodes) (omega (arith, length-drop size nodes, even, empty))), number))
+  ]
+    where
+      empty_row : (ns : List ℕ) → length ns ≡ 0 → ns ≡ []
+      empty_row [] e = refl
+      empty_row (n ∷ ns) e = absurd (omega (arith, e))

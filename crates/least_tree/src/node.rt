@@ -1,5 +1,5 @@
 ghost use Rattle.std.specs.Prelude.{◌≡◌, ◌+◌, ◌*◌, ◌/◌, ◌<◌, ◌≤◌, false, drop, length, set};
-ghost use Rattle.least_tree.specs.Nodes.{made, AreOthers, IsTree};
+ghost use Rattle.least_tree.specs.Nodes.{at, doubled, made, AreOthers, IsTree, IsLastLeaf};
 
 // After a change of one leaf: the nodes from the one above it on are renewed, up to the first that stays.
 pub fn raise(nodes: &mut [u128], above: usize)
@@ -40,4 +40,25 @@ fn renew(nodes: &mut [u128], node: usize) -> bool
     }
     nodes[node] = lesser;
     true
+}
+
+// The last leaf that has the number of the root: a node's right child is looked at first.
+pub fn last_with(nodes: &[u128], levels: usize, least: u128) -> usize
+    requires size { length nodes.now ≡ 2 * doubled levels 1 }
+    requires tree { IsTree nodes.now }
+    requires least { least ≡ at nodes.now 1 }
+    ensures { IsLastLeaf (doubled levels 1) nodes.now result }
+{
+    let mut node = 1;
+    let mut left = levels;
+    while left > 0 {
+        let right = 2 * node + 1;
+        node = if nodes[right] == least {
+            right
+        } else {
+            2 * node
+        };
+        left -= 1;
+    }
+    node
 }

@@ -2,7 +2,7 @@
 use Rattle.std.proofs.Common.{◌≡◌, ℕ, ◌<◌, Bool, true, false, not, ◌&&◌, cond, List, [], ◌∷◌, filter, slice_get, Option, Some, None, is_some, refl, sym, ap, ◌∙◌, inl, inr}
 use Rattle.std.specs.List.{AllByRecursion}
 use Rattle.std.proofs.Math.Bool.{and_comm}
-use Rattle.std.proofs.lemmas.Bool.{cases_Bool, true≢false, false≢true}
+use Rattle.std.proofs.lemmas.Bool.{cases_Bool, or_parts, true≢false, false≢true}
 use Rattle.conn_table.specs.Index.{placed_below, same_placed}
 use Rattle.conn_table.specs.declared.placed.Placed.{Placed}
 use Rattle.govern_rules.specs.Lent.{is_counted}
@@ -12,7 +12,7 @@ use Rattle.govern_rules.proofs.FoundMembers.{filter-twice, filter-same}
 use Rattle.timer_queue.proofs.Rising.{never_both, below_is_other, any-above, taken_out-above, replaced-above, above_when_same, above_when_not_below, AllAbove-filter, found, find-place, any-find}
 use Rattle.links.specs.Link.{place_of}
 use Rattle.links.specs.Rows.{AreInOrder, stands_at, link_at, with_new, with_link, without_link, counted_anew}
-use Rattle.links.proofs.LinkEdits.{placed_order, row_of, in_order-without, all_stay}
+use Rattle.links.proofs.LinkEdits.{placed_order, row_of, in_order-without}
 
 abbrev AreAbove : Placed → List Link → Type 0
 AreAbove placed links = AllByRecursion (λ l. placed_below placed (place_of l) ≡ true) links
@@ -90,15 +90,26 @@ pub counted-left : (placed : Placed) (links counted : List Link) → counted ≡
     without_link placed counted ≡ filter is_counted (without_link placed links)
 counted-left placed links counted is = ap (without_link placed) is ∙ sym (filter-without is_counted placed links)
 
-pub counted-entered : (new : Link) (links counted : List Link) → AreInOrder links → stands_at (place_of new) links ≡ false → counted ≡ filter is_counted links →
-    counted_anew new counted ≡ filter is_counted (with_new new links)
-counted-entered new links counted rises absent is =
-    let same : without_link (place_of new) counted ≡ filter is_counted links =
-    counted-left (place_of new) links counted is ∙ ap (filter is_counted) (all_stay (place_of new) links absent) in
-    elim (cases_Bool (is_counted new)) [
-      | inl counts ↦ rw counts (ap (with_new new) same ∙ sym (filter-new is_counted new links counts rises))
-      | inr other ↦ rw other (same ∙ sym (filter-none_new is_counted new links other))
-    ]
+pub counted-absent : (placed : Placed) (links counted : List Link) → stands_at placed links ≡ false → counted ≡ filter is_counted links →
+    stands_at placed counted ≡ false
+counted-absent placed links counted absent is = ap (stands_at placed) is ∙ none links absent
+  where
+    none : (ls : List Link) → stands_at placed ls ≡ false → stands_at placed (filter is_counted ls) ≡ false
+    none [] h = refl
+    none (l ∷ ls) h =
+        let parts = or_parts (same_placed (place_of l) placed) (stands_at placed ls) h in
+        elim (cases_Bool (is_counted l)) [
+          | inl counts ↦ rw (counts, parts.0) (none ls parts.1)
+          | inr other ↦ rw other (none ls parts.1)
+        ]
+
+pub counted-entered : (new : Link) (links counted : List Link) → AreInOrder links → is_counted new ≡ true → counted ≡ filter is_counted links →
+    with_new new counted ≡ filter is_counted (with_new new links)
+counted-entered new links counted rises counts is = ap (with_new new) is ∙ sym (filter-new is_counted new links counts rises)
+
+pub counted-passed : (new : Link) (links counted : List Link) → is_counted new ≡ false → counted ≡ filter is_counted links →
+    counted ≡ filter is_counted (with_new new links)
+counted-passed new links counted other is = is ∙ sym (filter-none_new is_counted new links other)
 
 pub counted-set : (new : Link) (links counted : List Link) → AreInOrder links → stands_at (place_of new) links ≡ true → counted ≡ filter is_counted links →
     counted_anew new counted ≡ filter is_counted (with_link new links)

@@ -18,6 +18,8 @@ use std::marker::Model;
 #[derive(Drop)]
 pub struct LinkRow {
     rows: ChunkedList<Link>,
+    // where the links of the address that was last looked for end: a guess of where one more link comes
+    near: usize,
 }
 
 impl Model for LinkRow {
@@ -39,6 +41,7 @@ impl LinkRow {
     {
         LinkRow {
             rows: ChunkedList::new(alloc),
+            near: 0,
         }
     }
 
@@ -50,12 +53,15 @@ impl LinkRow {
         &self.rows
     }
 
-    /// The address and id of the last link with an address. None where there is none.
-    pub fn last_at(&self, addr: Addr) -> Option<Placed>
-        ensures value { result ≡ last_at addr (map place_of self.now) }
-        ensures ordered { AreInOrder self.now }
+    /// The address and id of the last link with an address, so that the search for the place of one more is short. None where
+    /// there is none.
+    pub fn last_at(&mut self, addr: Addr) -> Option<Placed>
+        ensures value { result ≡ last_at addr (map place_of self.old) }
+        ensures ordered { AreInOrder self.old }
+        ensures same { self.new ≡ self.old }
     {
         let end = end_of(&self.rows, addr);
+        self.near = end;
         placed_before(&self.rows, end, addr)
     }
 
@@ -66,7 +72,7 @@ impl LinkRow {
         ensures err { OnErr result (self.new ≡ self.old) }
         ensures ordered { AreInOrder self.old }
     {
-        let row = place_in(&self.rows, place_of(&link));
+        let row = place_near(&self.rows, self.near, place_of(&link));
         self.rows.insert(row, link)
     }
 
@@ -108,6 +114,15 @@ fn place_in(rows: &ChunkedList<Link>, placed: Placed) -> usize
     ensures bound { result ≤ length rows.now }
 {
     rows.partition_point(|link| is_below(link, &placed))
+}
+
+// The same, where a place is tried first.
+fn place_near(rows: &ChunkedList<Link>, near: usize, placed: Placed) -> usize
+    requires { AreInOrder rows.now }
+    ensures value { result ≡ prefix_len (λ l. placed_below (place_of l) placed) rows.now }
+    ensures bound { result ≤ length rows.now }
+{
+    rows.partition_point_near(near, |link| is_below(link, &placed))
 }
 
 // How many links have an address up to one.

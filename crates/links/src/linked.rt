@@ -48,9 +48,10 @@ impl Links {
     }
 
     /// The address and id of the last connection with an address. None where there is none.
-    pub fn last_at(&self, addr: Addr) -> Option<Placed>
-        ensures value { result ≡ last_at addr (map place_of self.now) }
-        ensures ordered { AreInOrder self.now }
+    pub fn last_at(&mut self, addr: Addr) -> Option<Placed>
+        ensures value { result ≡ last_at addr (map place_of self.old) }
+        ensures ordered { AreInOrder self.old }
+        ensures same { self.new ≡ self.old }
     {
         self.all.last_at(addr)
     }
@@ -63,8 +64,9 @@ impl Links {
         ensures err { OnErr result (self.new ≡ self.old) }
     {
         self.all.enter(link)?;
-        let has_all = count_anew(&mut self.counted, link, self.has_all_counted);
-        self.has_all_counted = has_all;
+        if self.has_all_counted && link.is_counted() {
+            self.has_all_counted = self.counted.enter(link).is_ok();
+        }
         Ok(())
     }
 

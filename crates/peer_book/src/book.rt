@@ -1,4 +1,4 @@
-ghost use Rattle.std.specs.Prelude.{◌≡◌, ◌<◌, ◌≤◌, ◌^◌, [], nat_eq, take, drop, length, slice_get, IsSome, IfSome, IsSomeAnd, IfOk, OnOk, OnErr, false, true};
+ghost use Rattle.std.specs.Prelude.{◌≡◌, ◌<◌, ◌≤◌, ◌^◌, [], nat_eq, take, drop, length, slice_get, is_some, IsSome, IfSome, IsSomeAnd, IfOk, OnOk, OnErr, false, true};
 ghost use Rattle.std.specs.List.{prefix_len};
 ghost use Rattle.net_base.specs.Address.{address_below};
 ghost use Rattle.net_base.specs.Peer.{failed_peer};
@@ -9,7 +9,7 @@ use crate::kept::Kept;
 use crate::leaving::gathered;
 use crate::merge::fresh;
 use crate::newcomers::Newcomers;
-use crate::place::{peer_with, place_and_peer, place_of_peer};
+use crate::place::{peer_there, peer_with, place_and_peer, place_of_peer, place_of_peer_near};
 use crate::{Added, Listed};
 use net_base::{Addr, AddrList, OutOfMemory, Peer, Temp, backoff_delay};
 use std::alloc::Global;
@@ -17,6 +17,9 @@ use std::marker::Model;
 
 /// How many peers there may be, of both classes.
 pub const MOST_PEERS: u64 = 20_000;
+
+// So many addresses come in one after another, since all peers are gone through where they come in at once.
+const FEW: usize = 16;
 
 /// The peers that a node knows, in address order.
 #[derive(Drop)]
@@ -88,6 +91,16 @@ impl PeerBook {
         ensures { result ≡ peer_at addr self.now }
     {
         peer_with(&self.kept.peers, &addr)
+    }
+
+    /// Whether a peer has an address. A place is tried first, and that of the address is told for the next look: so whoever
+    /// asks for addresses that stand close together searches once.
+    pub fn has_near(&self, near: &mut usize, addr: Addr) -> bool
+        ensures { result ≡ is_some (peer_at addr self.now) }
+    {
+        let place = place_of_peer_near(&self.kept.peers, *near, &addr);
+        *near = place;
+        peer_there(&self.kept.peers, place, &addr).is_some()
     }
 
     /// How many ordinary peers are known.
@@ -178,6 +191,11 @@ impl PeerBook {
         ensures unchanged { OnErr result (self.new ≡ self.old) }
     {
         let alloc = self.kept.alloc();
+        if addrs.len() <= FEW {
+            let mut new = AddrList::new(alloc);
+            self.kept.enter_each(big, addrs, most, &mut new)?;
+            return Ok(new);
+        }
         let Newcomers { given, sorted } = Newcomers::find(alloc, &self.kept, big, addrs, most)?;
         self.kept.put_all(big, &sorted)?;
         Ok(given)
@@ -188,7 +206,7 @@ impl PeerBook {
         requires { IsSomeAnd (peer_at addr self.old) (λ peer. peer.temp ≡ Temp.Cold) }
         ensures { self.new ≡ without_peer addr self.old }
     {
-        let (place, peer) = place_and_peer(&self.kept.peers, &addr);
+        let (place, peer) = place_and_peer(&self.kept.peers, self.kept.near, &addr);
         self.kept.take_out(place, peer);
     }
 
@@ -209,7 +227,7 @@ impl PeerBook {
         requires { IsSome (peer_at addr self.old) }
         ensures { IfSome (peer_at addr self.old) (λ peer. self.new ≡ with_peer (record peer { temp = temp }) self.old) }
     {
-        let (place, peer) = place_and_peer(&self.kept.peers, &addr);
+        let (place, peer) = place_and_peer(&self.kept.peers, 0, &addr);
         self.kept.replace(place, peer, Peer { temp, ..peer });
     }
 
@@ -218,7 +236,7 @@ impl PeerBook {
         requires { IsSome (peer_at addr self.old) }
         ensures { IfSome (peer_at addr self.old) (λ peer. self.new ≡ with_peer (record peer { temp = Temp.Warm; failures = 0 }) self.old) }
     {
-        let (place, peer) = place_and_peer(&self.kept.peers, &addr);
+        let (place, peer) = place_and_peer(&self.kept.peers, 0, &addr);
         self.kept.replace(
             place,
             peer,
@@ -237,7 +255,7 @@ impl PeerBook {
         requires interval { base ≤ 86_400_000 }
         ensures { IfSome (peer_at addr self.old) (λ peer. self.new ≡ with_peer (failed_peer now base peer) self.old) }
     {
-        let (place, peer) = place_and_peer(&self.kept.peers, &addr);
+        let (place, peer) = place_and_peer(&self.kept.peers, 0, &addr);
         self.kept.replace(place, peer, failed(peer, now, base));
     }
 
@@ -246,7 +264,7 @@ impl PeerBook {
         requires { IsSome (peer_at addr self.old) }
         ensures { IfSome (peer_at addr self.old) (λ peer. self.new ≡ with_peer (record peer { share_next = next }) self.old) }
     {
-        let (place, peer) = place_and_peer(&self.kept.peers, &addr);
+        let (place, peer) = place_and_peer(&self.kept.peers, 0, &addr);
         self.kept.amend(
             place,
             peer,
@@ -262,7 +280,7 @@ impl PeerBook {
         requires { IsSome (peer_at addr self.old) }
         ensures { IfSome (peer_at addr self.old) (λ peer. self.new ≡ with_peer (record peer { big = false }) self.old) }
     {
-        let (place, peer) = place_and_peer(&self.kept.peers, &addr);
+        let (place, peer) = place_and_peer(&self.kept.peers, 0, &addr);
         self.kept.reclass(place, peer, Peer { big: false, ..peer });
     }
 

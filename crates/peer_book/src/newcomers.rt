@@ -52,11 +52,7 @@ fn room_for(kept: &Kept, big: bool, most: u64) -> u64
     requires { IsKept kept.now }
     ensures { result ≡ room_for most big kept.now.peers }
 {
-    let known = if big {
-        kept.tally.big.known
-    } else {
-        kept.tally.ordinary.known
-    };
+    let known = kept.known(big);
     let room = MOST_PEERS - kept.peers.len() as u64;
     most.saturating_sub(known).min(room)
 }

@@ -17,6 +17,8 @@ pub struct Row {
     pub chunks: ChunkedList<Addr>,
     // what stands behind the chunks: nothing, until memory was refused
     pub rest: Vec<Addr>,
+    // where an address came in last, or went: a guess of where the next one does
+    pub near: usize,
 }
 
 impl Row {
@@ -26,6 +28,7 @@ impl Row {
         Row {
             chunks: ChunkedList::new(alloc),
             rest: Vec::new(alloc),
+            near: 0,
         }
     }
 
@@ -36,6 +39,7 @@ impl Row {
         Ok(Row {
             chunks: ChunkedList::from_slice(alloc, addrs)?,
             rest: Vec::new(alloc),
+            near: 0,
         })
     }
 
@@ -77,6 +81,7 @@ impl Row {
     {
         let place = self.place(addr);
         self.put(place, addr);
+        self.near = place + 1;
     }
 
     pub fn remove(&mut self, addr: Addr)
@@ -88,6 +93,7 @@ impl Row {
     {
         let place = self.place(addr);
         self.take(place);
+        self.near = place;
     }
 
     // Makes room for so many addresses. Where there is none, as much memory again is asked for as there is: a row may be short
@@ -111,7 +117,7 @@ impl Row {
         requires room { length (addresses_in self.now) ≤ vec_capacity self.now.rest }
         ensures { result ≡ prefix_len (λ a. address_below a addr) (addresses_in self.now) }
     {
-        let place = place_in(&self.chunks, &addr);
+        let place = place_in(&self.chunks, self.near, &addr);
         if place < self.chunks.len() {
             return place;
         }

@@ -1,2 +1,2 @@
-pub mod Leasts
+pub mod Choices
 pub mod Rows

@@ -10,7 +10,7 @@ use Rattle.timer_queue.specs.Order.{IsRising}
 use Rattle.timer_queue.specs.Timers.{same_cid, cid_below}
 use Rattle.timer_queue.proofs.Orders.{cid_order, same_cid-is}
 use Rattle.timer_queue.proofs.Rising.{set-place, place-inside, above_when_same, map-replaced, IsRising-map, IsRising-from_map, IsRising-filter, any-above}
-use Rattle.prune_order.specs.Kept.{AreRising, AreUpTo, AreOfWords, IsOfWords}
+use Rattle.prune_order.specs.Kept.{AreRising, AreUpTo, AreOfWord, IsOfWord}
 use Rattle.prune_order.specs.Leaves.{is_there, ranked, row_by, row_of, rows_of, with_leaf, standing_by, those_there}
 use Rattle.prune_order.specs.Order.{stands, with_rank, without}
 use Rattle.prune_order.specs.declared.leaf.Leaf.{Leaf}
@@ -210,20 +210,20 @@ pushed leaves new = length_push leaves new
 
 -- ---- words
 
-pub words-with_leaf : (new : Leaf) (leaves : List Leaf) → IsOfWords new → AreOfWords leaves → AreOfWords (with_leaf new leaves)
+pub words-with_leaf : (new : Leaf) (leaves : List Leaf) → IsOfWord new → AreOfWord leaves → AreOfWord (with_leaf new leaves)
 words-with_leaf new [] of_new words = tt
 words-with_leaf new (l ∷ ls) of_new words = elim (cases_Bool (same_cid l.cid new.cid)) [
   | inl here ↦ rw here (of_new, words-with_leaf new ls of_new words.1)
   | inr other ↦ rw other (words.0, words-with_leaf new ls of_new words.1)
 ]
 
-pub words-push : (leaves : List Leaf) (new : Leaf) → IsOfWords new → AreOfWords leaves → AreOfWords (leaves ++ new ∷ [])
-words-push leaves new of_new words = all-push IsOfWords leaves new words of_new
+pub words-push : (leaves : List Leaf) (new : Leaf) → IsOfWord new → AreOfWord leaves → AreOfWord (leaves ++ new ∷ [])
+words-push leaves new of_new words = all-push IsOfWord leaves new words of_new
 
-pub words-dropped : (leaves : List Leaf) → AreOfWords leaves → AreOfWords (those_there leaves)
+pub words-dropped : (leaves : List Leaf) → AreOfWord leaves → AreOfWord (those_there leaves)
 words-dropped [] words = tt
 words-dropped (l ∷ ls) words = by (is_there l.standing) (words-dropped ls words.1)
   where
-    by : (b : Bool) → AreOfWords (those_there ls) → AreOfWords (cond b (l ∷ those_there ls) (those_there ls))
+    by : (b : Bool) → AreOfWord (those_there ls) → AreOfWord (cond b (l ∷ those_there ls) (those_there ls))
     by true rest = (words.0, rest)
     by false rest = rest

@@ -3,7 +3,7 @@ use Rattle.std.specs.Prelude.{◌≡◌, ℕ, ◌-◌, ◌^◌, ◌<◌, ◌≤�
 use Rattle.std.specs.List.{AllByRecursion}
 use Rattle.net_base.specs.declared.connection.Cid.{Cid}
 use Rattle.least_tree.specs.Numbers.{none}
-use Rattle.prune_order.specs.Keys.{keys_in}
+use Rattle.prune_order.specs.Numbers.{numbers_in}
 use Rattle.prune_order.specs.declared.leaf.Leaf.{Leaf}
 use Rattle.prune_order.specs.declared.leaf.Standing.{Standing}
 use Rattle.prune_order.specs.declared.leaf.Standing.TheVariants.{Gone, Kept, MayGo}
@@ -22,22 +22,21 @@ IsWord Gone = Unit {0}
 IsWord Kept = Unit {0}
 IsWord (MayGo rank) = rank < 2 ^ 8
 
--- id and rank are words
-pub record IsOfWords (leaf : Leaf) : Type 0 where
-  pub id : leaf.cid.0 < 2 ^ 64
-  pub rank : IsWord leaf.standing
+-- its rank is a word
+abbrev pub IsOfWord : Leaf → Type 0
+IsOfWord leaf = IsWord leaf.standing
 
-abbrev pub AreOfWords : List Leaf → Type 0
-AreOfWords leaves = AllByRecursion IsOfWords leaves
+abbrev pub AreOfWord : List Leaf → Type 0
+AreOfWord leaves = AllByRecursion IsOfWord leaves
 
--- their keys, and room for more
+-- their ranks, and room for more
 abbrev pub IsOver : List Leaf → List ℕ → Type 0
-IsOver leaves keys = keys ≡ keys_in leaves ++ replicate (length keys - length leaves) none
+IsOver leaves ranks = ranks ≡ numbers_in leaves ++ replicate (length ranks - length leaves) none
 
-pub record IsKept (leaves : List Leaf) (keys : List ℕ) (last : Cid) (capacity : ℕ) : Type 0 where
+pub record IsKept (leaves : List Leaf) (ranks : List ℕ) (last : Cid) (capacity : ℕ) : Type 0 where
   pub rise : AreRising leaves
   pub up_to : AreUpTo last leaves
-  pub words : AreOfWords leaves
-  pub fit : length leaves ≤ length keys
-  pub memory : length keys ≤ capacity
-  pub over : IsOver leaves keys
+  pub words : AreOfWord leaves
+  pub fit : length leaves ≤ length ranks
+  pub memory : length ranks ≤ capacity
+  pub over : IsOver leaves ranks

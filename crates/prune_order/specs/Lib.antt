@@ -1,4 +1,4 @@
-pub mod Keys
 pub mod Kept
 pub mod Leaves
+pub mod Numbers
 pub mod Order

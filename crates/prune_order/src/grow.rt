@@ -1,10 +1,10 @@
-ghost use Rattle.std.specs.Prelude.{◌≡◌, filter, IfOk};
+ghost use Rattle.std.specs.Prelude.{◌≡◌, ◌≤◌, filter, length, IfOk};
 ghost use Rattle.std.specs.Vec.{vec_capacity};
-ghost use Rattle.least_tree.specs.Numbers.{with_room};
-ghost use Rattle.prune_order.specs.Keys.{keys_in};
+ghost use Rattle.least_tree.specs.Numbers.{room_for, IsLaid};
+ghost use Rattle.prune_order.specs.Numbers.{numbers_in};
 ghost use Rattle.prune_order.specs.Leaves.{is_there, those_there};
 
-use crate::leaf::{Leaf, is_there, key_in};
+use crate::leaf::{Leaf, is_there, number_in};
 use least_tree::LeastTree;
 use net_base::OutOfMemory;
 use std::alloc::{AllocError, Global};
@@ -17,20 +17,21 @@ pub fn drop_gone(leaves: &mut Vec<Leaf>)
     leaves.retain(|leaf| is_there(leaf));
 }
 
-// The keys of those that have not gone, and room for as many again.
+// The ranks of those that have not gone, and room for at least half as many again.
 pub fn tree_over(alloc: Global, leaves: &[Leaf]) -> Result<LeastTree, OutOfMemory>
-    ensures { IfOk result (λ tree. tree ≡ with_room (keys_in (those_there leaves.now))) }
+    ensures laid { IfOk result (λ tree. IsLaid (numbers_in (those_there leaves.now)) tree) }
+    ensures room { IfOk result (λ tree. room_for (length (those_there leaves.now)) ≤ length tree) }
 {
-    let keys = keys(alloc, leaves)?;
-    LeastTree::over(alloc, &keys)
+    let numbers = numbers(alloc, leaves)?;
+    LeastTree::over(alloc, &numbers)
 }
 
-fn keys(alloc: Global, leaves: &[Leaf]) -> Result<Vec<u128>, AllocError>
-    ensures { IfOk result (λ keys. keys.items ≡ keys_in (those_there leaves.now)) }
+fn numbers(alloc: Global, leaves: &[Leaf]) -> Result<Vec<u128>, AllocError>
+    ensures { IfOk result (λ numbers. numbers.items ≡ numbers_in (those_there leaves.now)) }
 {
     leaves
         .iter()
         .filter(|leaf| is_there(leaf))
-        .map(|leaf| key_in(leaf))
+        .map(|leaf| number_in(leaf))
         .collect(alloc)
 }

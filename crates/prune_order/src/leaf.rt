@@ -1,11 +1,11 @@
 ghost use Rattle.std.specs.Prelude.{◌≡◌, ◌≤◌, ◌<◌, length, IfSome};
 ghost use Rattle.std.specs.List.{prefix_len};
-ghost use Rattle.prune_order.specs.Kept.{AreRising, IsOfWords};
-ghost use Rattle.prune_order.specs.Keys.{key_in, cid_in};
+ghost use Rattle.prune_order.specs.Kept.{AreRising, IsOfWord};
+ghost use Rattle.prune_order.specs.Numbers.{number_in};
 ghost use Rattle.prune_order.specs.Leaves.{standing_by, is_there};
 ghost use Rattle.timer_queue.specs.Timers.{cid_below};
 
-use least_tree::{NONE, key, second};
+use least_tree::NONE;
 use net_base::Cid;
 use timer_queue::place_from;
 
@@ -46,26 +46,15 @@ pub fn is_there(leaf: &Leaf) -> bool
     }
 }
 
-// Its rank and then its id, of which the greatest comes first, as one number.
-pub fn key_in(leaf: &Leaf) -> u128
-    ensures value { result ≡ key_in leaf.now }
-    ensures words { IsOfWords leaf.now }
+// Its rank as a number, where it may go.
+pub fn number_in(leaf: &Leaf) -> u128
+    ensures value { result ≡ number_in leaf.now }
+    ensures word { IsOfWord leaf.now }
 {
-    let id = leaf.cid.0;
     match leaf.standing {
         Standing::Gone | Standing::Kept => NONE,
-        Standing::MayGo(rank) => key(u64::from(rank), u64::MAX - id),
+        Standing::MayGo(rank) => u128::from(rank),
     }
-}
-
-// The id in a key, where it is one.
-pub fn cid_in(number: u128) -> Option<Cid>
-    ensures { result ≡ cid_in number }
-{
-    if number == NONE {
-        return None;
-    }
-    Some(Cid(u64::MAX - second(number)))
 }
 
 // How many have a lower id.

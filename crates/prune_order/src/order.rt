@@ -2,13 +2,13 @@ ghost use Rattle.std.specs.Prelude.{◌≡◌, ◌-◌, ◌∷◌, ◌++◌, ◌
 ghost use Rattle.std.specs.List.{list_any};
 ghost use Rattle.std.specs.Vec.{vec_capacity};
 ghost use Rattle.accept_gate.specs.Prune.{choice_of};
-ghost use Rattle.prune_order.specs.Kept.{AreRising, AreOfWords, IsOver};
+ghost use Rattle.prune_order.specs.Kept.{AreRising, AreOfWord, IsOver};
 ghost use Rattle.prune_order.specs.Leaves.{with_leaf};
 ghost use Rattle.timer_queue.specs.Timers.{same_cid};
 ghost use Rattle.prune_order.specs.Order.{candidates, stands, with_rank, without};
 
 use crate::grow::{drop_gone, tree_over};
-use crate::leaf::{Leaf, Standing, cid_in, key_in, place_of, standing_by};
+use crate::leaf::{Leaf, Standing, number_in, place_of, standing_by};
 use least_tree::LeastTree;
 use net_base::{Cid, OutOfMemory};
 use std::alloc::Global;
@@ -16,13 +16,13 @@ use std::marker::Model;
 
 /// The connections that stand, each with its rank where it may go. Contracts see them in order of id.
 ///
-/// Beside them stands a tree that has of each its rank and its id, as one number. So a change is told as far up as it matters,
-/// and the least number names whoever goes first.
+/// Beside them stands a tree that has of each its rank. So a change is told as far up as it matters, which is hardly ever far,
+/// and the last of those that have the least rank goes first.
 #[derive(Drop)]
 pub struct PruneOrder {
     // in order of id, those that have gone among them
     leaves: Vec<Leaf>,
-    keys: LeastTree,
+    ranks: LeastTree,
     last: Cid,
 }
 
@@ -35,9 +35,9 @@ impl Model for PruneOrder {
 
     ghost Value = { Order };
 
-    ghost view = { λ o. record { rows = rows_of o.leaves.items; room = length o.keys - length o.leaves.items; last = o.last } };
+    ghost view = { λ o. record { rows = rows_of o.leaves.items; room = length o.ranks - length o.leaves.items; last = o.last } };
 
-    ghost invariant = { λ o. IsKept o.leaves.items o.keys o.last (vec_capacity o.leaves) };
+    ghost invariant = { λ o. IsKept o.leaves.items o.ranks o.last (vec_capacity o.leaves) };
 }
 
 impl PruneOrder {
@@ -47,7 +47,7 @@ impl PruneOrder {
     {
         PruneOrder {
             leaves: Vec::new(alloc),
-            keys: LeastTree::new(alloc),
+            ranks: LeastTree::new(alloc),
             last: Cid(0),
         }
     }
@@ -58,14 +58,14 @@ impl PruneOrder {
         ensures last { self.new.last ≡ self.old.last }
         ensures room { OnOk result (0 < self.new.room) }
     {
-        if self.leaves.len() < self.keys.len() {
+        if self.leaves.len() < self.ranks.len() {
             return Ok(());
         }
-        let keys = tree_over(*self.leaves.allocator(), &self.leaves)?;
-        let more = keys.len().saturating_sub(self.leaves.len());
+        let ranks = tree_over(*self.leaves.allocator(), &self.leaves)?;
+        let more = ranks.len().saturating_sub(self.leaves.len());
         self.leaves.try_reserve(more)?;
         drop_gone(&mut self.leaves);
-        self.keys = keys;
+        self.ranks = ranks;
         Ok(())
     }
 
@@ -84,7 +84,7 @@ impl PruneOrder {
             cid,
             standing: standing_by(rank),
         };
-        self.keys.put(place, key_in(&leaf));
+        self.ranks.put(place, number_in(&leaf));
         // there is room
         let _ = self.leaves.push(leaf);
         self.last = cid;
@@ -95,7 +95,7 @@ impl PruneOrder {
         requires { stands cid self.old.rows ≡ true }
         ensures { self.new ≡ record self.old { rows = with_rank cid rank self.old.rows } }
     {
-        put(&mut self.leaves, &mut self.keys, cid, standing_by(rank));
+        put(&mut self.leaves, &mut self.ranks, cid, standing_by(rank));
     }
 
     /// A connection goes.
@@ -103,32 +103,34 @@ impl PruneOrder {
         requires { stands cid self.old.rows ≡ true }
         ensures { self.new ≡ record self.old { rows = without cid self.old.rows } }
     {
-        put(&mut self.leaves, &mut self.keys, cid, Standing::Gone);
+        put(&mut self.leaves, &mut self.ranks, cid, Standing::Gone);
     }
 
     /// Which one goes first. None where none may go.
     pub fn choice(&self) -> Option<Cid>
         ensures { result ≡ choice_of (candidates self.now.rows) }
     {
-        cid_in(self.keys.least())
+        let place = self.ranks.last_least()?;
+        let leaf = self.leaves.get(place)?;
+        Some(leaf.cid)
     }
 }
 
 // A connection that came stands otherwise.
 #[inline(always)]
-fn put(leaves: &mut Vec<Leaf>, keys: &mut LeastTree, cid: Cid, standing: Standing)
+fn put(leaves: &mut Vec<Leaf>, ranks: &mut LeastTree, cid: Cid, standing: Standing)
     requires rise { AreRising leaves.old.items }
-    requires fit { length leaves.old.items ≤ length keys.old }
-    requires keys { IsOver leaves.old.items keys.old }
+    requires fit { length leaves.old.items ≤ length ranks.old }
+    requires ranks { IsOver leaves.old.items ranks.old }
     requires there { list_any (λ l. same_cid l.cid cid) leaves.old.items ≡ true }
     ensures leaves { leaves.new.items ≡ with_leaf (record { cid = cid; standing = standing }) leaves.old.items }
     ensures memory { vec_capacity leaves.new ≡ vec_capacity leaves.old }
-    ensures length { length keys.new ≡ length keys.old }
-    ensures keys { IsOver leaves.new.items keys.new }
-    ensures words { AreOfWords leaves.old.items → AreOfWords leaves.new.items }
+    ensures length { length ranks.new ≡ length ranks.old }
+    ensures ranks { IsOver leaves.new.items ranks.new }
+    ensures words { AreOfWord leaves.old.items → AreOfWord leaves.new.items }
 {
     let place = place_of(leaves, cid);
     let leaf = Leaf { cid, standing };
-    keys.put(place, key_in(&leaf));
+    ranks.put(place, number_in(&leaf));
     leaves[place] = leaf;
 }

@@ -23,11 +23,12 @@ pub fn fresh(
 {
     let room = room_for(book, target);
     let mut taken = AddrList::new(alloc);
+    let mut near = 0;
     for addr in answer.as_slice() {
         if taken.as_slice().len() as u64 >= room {
             return Ok(taken);
         }
-        let may = is_new_beside(taken.as_slice(), book, own, version, *addr);
+        let may = is_new_beside(taken.as_slice(), book, &mut near, own, version, *addr);
         keep_where(&mut taken, may, *addr)?;
     }
     Ok(taken)
@@ -42,16 +43,23 @@ fn room_for(book: &PeerBook, target: u64) -> u64
 }
 
 // An address is new, and was not taken before.
-fn is_new_beside(taken: &[Addr], book: &PeerBook, own: Addr, version: u64, addr: Addr) -> bool
+fn is_new_beside(
+    taken: &[Addr],
+    book: &PeerBook,
+    near: &mut usize,
+    own: Addr,
+    version: u64,
+    addr: Addr,
+) -> bool
     ensures { result ≡ (is_new own version book.now addr && not (is_listed addr taken.now)) }
 {
-    is_new(book, own, version, addr) && !is_listed(addr, taken)
+    is_new(book, near, own, version, addr) && !is_listed(addr, taken)
 }
 
-fn is_new(book: &PeerBook, own: Addr, version: u64, addr: Addr) -> bool
+fn is_new(book: &PeerBook, near: &mut usize, own: Addr, version: u64, addr: Addr) -> bool
     ensures { result ≡ is_new own version book.now addr }
 {
-    fits_version(version, addr) && !addr.is_same(&own) && book.get(addr).is_none()
+    fits_version(version, addr) && !addr.is_same(&own) && !book.has_near(near, addr)
 }
 
 fn fits_version(version: u64, addr: Addr) -> bool

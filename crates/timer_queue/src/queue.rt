@@ -55,7 +55,7 @@ impl TimerQueue {
         self.kept.moments(cid)
     }
 
-    /// Makes room for a connection and its timers, twice as much as there was where there is none. No other call takes memory.
+    /// Makes room for a connection and its timers, and where there is none for at least half as many again. No other call takes memory.
     pub fn enroll(&mut self, cid: Cid) -> Result<(), OutOfMemory>
         ensures ok { OnOk result (self.new ≡ with_enrolled cid self.old) }
         ensures err { OnErr result (self.new ≡ self.old) }

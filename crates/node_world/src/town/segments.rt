@@ -5,6 +5,9 @@ use mux_segment::{Header, read_header, write_header};
 use net_base::{Octets, OutOfMemory};
 use std::alloc::Global;
 
+// How many bytes stand before a payload.
+const HEADER_SIZE: usize = 8;
+
 // Versions 13 and 14, each with the network magic 42, both directions, peer sharing, and no query.
 pub(crate) const PROPOSAL: [u8; 17] = [
     0x82, 0x00, 0xa2, 0x0d, 0x84, 0x18, 0x2a, 0xf4, 0x01, 0xf4, 0x0e, 0x84, 0x18, 0x2a, 0xf4, 0x01,
@@ -39,7 +42,9 @@ pub(crate) fn spoken(
         id,
         size: payload.len() as u16,
     };
-    let mut bytes = Octets::from_slice(alloc, &write_header(&header))?;
+    let room = Vec::with_capacity(alloc, HEADER_SIZE + payload.len())?;
+    let mut bytes = Octets::from_vec(room);
+    bytes.extend_from_slice(&write_header(&header))?;
     bytes.extend_from_slice(payload)?;
     Ok(bytes)
 }
@@ -64,7 +69,8 @@ pub(crate) fn reply_alive(alloc: Global, payload: &[u8]) -> Result<Octets, OutOf
     ensures value { IfOk result (λ reply. reply ≡ alive_reply payload.now) }
     ensures size { IfOk result (λ reply. length reply ≡ length payload.now) }
 {
-    let mut reply = Octets::from_slice(alloc, &[0x82, 0x01])?;
+    let mut reply = Octets::from_vec(Vec::with_capacity(alloc, payload.len())?);
+    reply.extend_from_slice(&[0x82, 0x01])?;
     reply.extend_from_slice(&payload[2..])?;
     Ok(reply)
 }

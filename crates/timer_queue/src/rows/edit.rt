@@ -1,6 +1,6 @@
-ghost use Rattle.std.specs.Prelude.{◌≡◌, IfOk};
+ghost use Rattle.std.specs.Prelude.{◌≡◌, ◌≤◌, length, IfOk};
 ghost use Rattle.std.specs.Vec.{vec_capacity};
-ghost use Rattle.least_tree.specs.Numbers.{with_room};
+ghost use Rattle.least_tree.specs.Numbers.{room_for, IsLaid};
 ghost use Rattle.timer_queue.specs.Kept.{those_in};
 ghost use Rattle.timer_queue.specs.Keys.{keys_in};
 
@@ -17,9 +17,10 @@ pub fn drop_gone(rows: &mut Vec<Row>)
     rows.retain(|row| row.enrolled);
 }
 
-// The keys of those that have not left, and room for as many again.
+// The keys of those that have not left, and room for at least half as many again.
 pub fn tree_over(alloc: Global, rows: &[Row]) -> Result<LeastTree, OutOfMemory>
-    ensures { IfOk result (λ tree. tree ≡ with_room (keys_in (those_in rows.now))) }
+    ensures laid { IfOk result (λ tree. IsLaid (keys_in (those_in rows.now)) tree) }
+    ensures room { IfOk result (λ tree. room_for (length (those_in rows.now)) ≤ length tree) }
 {
     let keys = keys(alloc, rows)?;
     LeastTree::over(alloc, &keys)

@@ -28,20 +28,22 @@ impl NodeState {
         self.connections.look_up(cid)
     }
 
-    /// The live connection of an address.
-    pub(crate) fn live(&self, addr: Addr) -> Option<Facts>
-        ensures entry { result ≡ option_map (λ e. e.facts) (live_entry_at addr self.now) }
-        ensures by_id { IfSome (live_entry_at addr self.now) (λ e. entry_at e.facts.cid.0 self.now ≡ Some e) }
-        ensures known { IfSome result (λ f. IsKnown f self.now) }
+    /// The live connection of an address, so that one more of the address is let in after a short search.
+    pub(crate) fn live(&mut self, addr: Addr) -> Option<Facts>
+        ensures same { self.new ≡ self.old }
+        ensures entry { result ≡ option_map (λ e. e.facts) (live_entry_at addr self.old) }
+        ensures by_id { IfSome (live_entry_at addr self.old) (λ e. entry_at e.facts.cid.0 self.old ≡ Some e) }
+        ensures known { IfSome result (λ f. IsKnown f self.new) }
     {
         self.connections.live(addr)
     }
 
-    /// The connection of an address that is in local use.
-    pub(crate) fn used(&self, addr: Addr) -> Option<Facts>
-        ensures entry { result ≡ option_map (λ e. e.facts) (find (is_used_at addr) self.now.connections) }
-        ensures by_id { IfSome (find (is_used_at addr) self.now.connections) (λ e. entry_at e.facts.cid.0 self.now ≡ Some e) }
-        ensures known { IfSome result (λ f. IsKnown f self.now) }
+    /// The connection of an address that is in local use, in the same way.
+    pub(crate) fn used(&mut self, addr: Addr) -> Option<Facts>
+        ensures same { self.new ≡ self.old }
+        ensures entry { result ≡ option_map (λ e. e.facts) (find (is_used_at addr) self.old.connections) }
+        ensures by_id { IfSome (find (is_used_at addr) self.old.connections) (λ e. entry_at e.facts.cid.0 self.old ≡ Some e) }
+        ensures known { IfSome result (λ f. IsKnown f self.new) }
     {
         self.connections.used(addr)
     }

@@ -11,7 +11,7 @@ use Rattle.peer_book.proofs.place.place_and_peer.Goals as goal
 found : (c : goal.After-peer_there) → c.peer_there.result ≡ peer_at c.args.addr.now c.args.peers.now
 found c =
     c.peer_there.ensures
-    ∙ (ap (λ n. found_at (λ p. p.addr) c.args.addr.now (slice_get c.args.peers.now n)) c.place_of_peer-place.ensures
+    ∙ (ap (λ n. found_at (λ p. p.addr) c.args.addr.now (slice_get c.args.peers.now n)) c.place_of_peer_near-place.ensures
     ∙ sym (find-place (λ p. p.addr) c.args.addr.now c.args.peers.now c.requires.rising))
 
 pub unwrap-peer-requires : goal.unwrap-peer-requires
@@ -31,5 +31,5 @@ returns-clause-stands c =
     let here : c.args.addr.now ≡ peer.addr = sym (returns-clause-here c) in
     record {
       there = subst (λ a. peer_at a peers ≡ Some peer) here is;
-      behind = c.place_of_peer-place.ensures ∙ ap (λ a. prefix_len (λ p. address_below p.addr a) peers) here;
+      behind = c.place_of_peer_near-place.ensures ∙ ap (λ a. prefix_len (λ p. address_below p.addr a) peers) here;
     }

@@ -6,6 +6,6 @@ use Rattle.peer_book.proofs.place.place_in.Goals as goal
 pub returns : goal.returns
 returns c =
     let p = is_under (λ a. a) c.args.addr.now in
-    place_is p c.args.addrs.now c.partition_point.result c.partition_point.ensures.bound
-    (IsPartitionPoint-from_clause p c.args.addrs.now c.partition_point.result c.partition_point.ensures.partitioned
+    place_is p c.args.addrs.now c.partition_point_near.result c.partition_point_near.ensures.bound
+    (IsPartitionPoint-from_clause p c.args.addrs.now c.partition_point_near.result c.partition_point_near.ensures.partitioned
     (partitioned (λ a. a) c.args.addr.now c.args.addrs.now c.requires) (λ a r f k. search rules))

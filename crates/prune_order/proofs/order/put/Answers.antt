@@ -1,7 +1,7 @@
 use Rattle.std.proofs.Common.{List, set, subst, sym, ap, ◌∙◌, arith}
 use Rattle.least_tree.proofs.Over.{over-set}
-use Rattle.prune_order.specs.Keys.{key_in}
-use Rattle.prune_order.specs.Kept.{AreOfWords}
+use Rattle.prune_order.specs.Numbers.{number_in}
+use Rattle.prune_order.specs.Kept.{AreOfWord}
 use Rattle.prune_order.specs.declared.leaf.Leaf.{Leaf}
 use Rattle.prune_order.proofs.Rows.{inside-place, set-with_leaf, place-same, words-with_leaf}
 use Rattle.prune_order.proofs.order.put.Goals as goal
@@ -33,19 +33,19 @@ returns-clause-leaves c =
     set-with_leaf new leaves c.place_of-place.result c.requires.rise c.requires.there
     (place-same c.args.cid c.place_of-place.result _ leaves c.deref.ensures.value c.place_of-place.ensures.value)
 
-pub returns-clause-keys : goal.returns-clause-keys
-returns-clause-keys c =
+pub returns-clause-ranks : goal.returns-clause-ranks
+returns-clause-ranks c =
     let leaves : List Leaf = c.args.leaves.now.items in
     let new : Leaf = record { cid = c.args.cid; standing = c.args.standing } in
     let inside = inside-place c.args.cid leaves c.place_of-place.result c.requires.rise c.requires.there
     (place-same c.args.cid c.place_of-place.result _ leaves c.deref.ensures.value c.place_of-place.ensures.value) in
-    over-set key_in leaves c.args.keys.now c.put.new.self c.place_of-place.result new inside c.requires.keys
-    (c.put.ensures ∙ ap (set c.args.keys.now c.place_of-place.result) c.key_in.ensures.value)
+    over-set number_in leaves c.args.ranks.now c.put.new.self c.place_of-place.result new inside c.requires.ranks
+    (c.put.ensures ∙ ap (set c.args.ranks.now c.place_of-place.result) c.number_in.ensures.value)
 
 pub returns-clause-words : goal.returns-clause-words
 returns-clause-words c words =
     let leaves : List Leaf = c.args.leaves.now.items in
     let new : Leaf = record { cid = c.args.cid; standing = c.args.standing } in
-    subst AreOfWords (sym (set-with_leaf new leaves c.place_of-place.result c.requires.rise c.requires.there
+    subst AreOfWord (sym (set-with_leaf new leaves c.place_of-place.result c.requires.rise c.requires.there
     (place-same c.args.cid c.place_of-place.result _ leaves c.deref.ensures.value c.place_of-place.ensures.value)))
-    (words-with_leaf new leaves c.key_in.ensures.words words)
+    (words-with_leaf new leaves c.number_in.ensures.word words)

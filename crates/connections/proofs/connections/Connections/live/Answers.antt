@@ -14,7 +14,7 @@ use Rattle.connections.proofs.connections.Connections.live.Goals as goal
 
 pub returns-clause-value : goal.returns-clause-value
 returns-clause-value c =
-    c.live_in.ensures
+    c.live_in.ensures.value
     ∙ (sym (find_paired (is_live_at c.args.addr) (facts_kept c.self.inside.kept.roster) c.self.inside.kept.talks c.self.invariant.0.talks_are)
     ∙ ap (λ s. option_map (λ e. e.facts) (live_entry c.args.addr s)) c.self.view_is)
 

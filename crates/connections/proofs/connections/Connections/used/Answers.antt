@@ -16,7 +16,7 @@ use Rattle.connections.proofs.connections.Connections.used.Goals as goal
 pub returns-clause-value : goal.returns-clause-value
 returns-clause-value c =
     c.if_used.ensures
-    ∙ (ap if_used c.live_in.ensures
+    ∙ (ap if_used c.live_in.ensures.value
     ∙ (sym (used_at-live c.args.addr (facts_kept c.self.inside.kept.roster) c.self.invariant.0.roster_kept.last_lives)
     ∙ (sym (find_paired (λ f. is_live_at c.args.addr f && f.local) (facts_kept c.self.inside.kept.roster) c.self.inside.kept.talks c.self.invariant.0.talks_are)
     ∙ ap (λ s. option_map (λ e. e.facts) (used_entry c.args.addr s)) c.self.view_is)))

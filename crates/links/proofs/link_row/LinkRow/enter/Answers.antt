@@ -7,12 +7,12 @@ use Rattle.links.proofs.LinkEdits.{row_of, insert-row, in_order-tried}
 use Rattle.links.proofs.link_row.LinkRow.enter.Goals.{After-insert}
 use Rattle.links.proofs.link_row.LinkRow.enter.Goals as goal
 
-put : (c : After-insert) → c.insert.new.self ≡ insert c.self.inside.rows c.place_in-row.result c.args.link →
+put : (c : After-insert) → c.insert.new.self ≡ insert c.self.inside.rows c.place_near-row.result c.args.link →
     c.insert.new.self ≡ with_new c.args.link c.self.inside.rows
 put c e =
     e
-    ∙ insert-row c.args.link c.self.inside.rows c.place_in-row.result
-    (c.place_in-row.ensures.value ∙ ap (λ p. row_of p c.self.inside.rows) c.place_of.ensures)
+    ∙ insert-row c.args.link c.self.inside.rows c.place_near-row.result
+    (c.place_near-row.ensures.value ∙ ap (λ p. row_of p c.self.inside.rows) c.place_of.ensures)
 
 pub invariant_of-self : goal.invariant_of-self
 invariant_of-self c =

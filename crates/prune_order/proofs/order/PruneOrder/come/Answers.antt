@@ -1,8 +1,8 @@
 use Rattle.std.proofs.Common.{◌≡◌, ◌-◌, ◌<◌, ◌++◌, ◌∷◌, [], cond, length, set, subst, sym, ap, arith, ◌∙◌}
 use Rattle.std.proofs.lemmas.List.{length-set}
 use Rattle.least_tree.proofs.Over.{over-push}
-use Rattle.prune_order.specs.Keys.{key_in}
-use Rattle.prune_order.specs.Kept.{AreRising, AreUpTo, AreOfWords, IsOfWords, IsOver}
+use Rattle.prune_order.specs.Numbers.{number_in}
+use Rattle.prune_order.specs.Kept.{AreRising, AreUpTo, AreOfWord, IsOfWord, IsOver}
 use Rattle.prune_order.specs.Leaves.{rows_of, standing_by}
 use Rattle.prune_order.specs.Order.{Order}
 use Rattle.prune_order.specs.declared.leaf.Leaf.{Leaf}
@@ -11,7 +11,7 @@ use Rattle.prune_order.proofs.Rows.{rows-push, rise-push, up_to-push, words-push
 use Rattle.prune_order.proofs.order.PruneOrder.come.Goals.{After-push}
 use Rattle.prune_order.proofs.order.PruneOrder.come.Goals as goal
 
-roomy : (c : After-push) → length c.self.inside.leaves.items < length c.self.inside.keys
+roomy : (c : After-push) → length c.self.inside.leaves.items < length c.self.inside.ranks
 roomy c = omega (arith, ap (λ (o : Order). o.room) c.self.view_is, c.requires.room)
 
 abbrev new : After-push → Leaf
@@ -31,14 +31,14 @@ place_is c = omega (arith, c.len-place.ensures, c.self.inside.leaves.ok)
 pub put-requires : goal.put-requires
 put-requires c = omega (arith, c.len-place.ensures, c.self.inside.leaves.ok, ap (λ (o : Order). o.room) c.self.view_is, c.requires.room)
 
-key_is : (c : After-push) → c.key_in.result ≡ key_in (new c)
-key_is c = c.key_in.ensures.value ∙ ap (λ s. key_in (record { cid = c.args.cid; standing = s })) c.standing_by.ensures
+key_is : (c : After-push) → c.number_in.result ≡ number_in (new c)
+key_is c = c.number_in.ensures.value ∙ ap (λ s. number_in (record { cid = c.args.cid; standing = s })) c.standing_by.ensures
 
-keys_are : (c : After-push) → c.put.new.self ≡ set c.self.inside.keys c.len-place.result (key_in (new c))
-keys_are c = c.put.ensures ∙ ap (set c.self.inside.keys c.len-place.result) (key_is c)
+keys_are : (c : After-push) → c.put.new.self ≡ set c.self.inside.ranks c.len-place.result (number_in (new c))
+keys_are c = c.put.ensures ∙ ap (set c.self.inside.ranks c.len-place.result) (key_is c)
 
-longer : (c : After-push) → length c.put.new.self ≡ length c.self.inside.keys
-longer c = ap length c.put.ensures ∙ length-set c.self.inside.keys c.len-place.result c.key_in.result
+longer : (c : After-push) → length c.put.new.self ≡ length c.self.inside.ranks
+longer c = ap length c.put.ensures ∙ length-set c.self.inside.ranks c.len-place.result c.number_in.result
 
 pub invariant_of-self : goal.invariant_of-self
 invariant_of-self c =
@@ -51,21 +51,21 @@ invariant_of-self c =
     record {
       rise = subst AreRising (sym is) (rise-push leaves last (new d) inv.rise inv.up_to above);
       up_to = subst (AreUpTo c.args.cid) (sym is) (up_to-push leaves last (new d) inv.up_to above);
-      words = subst AreOfWords (sym is) (words-push leaves (new d) (subst (λ s. IsOfWords (record { cid = c.args.cid; standing = s })) c.standing_by.ensures c.key_in.ensures.words) inv.words);
+      words = subst AreOfWord (sym is) (words-push leaves (new d) (subst (λ s. IsOfWord (record { cid = c.args.cid; standing = s })) c.standing_by.ensures c.number_in.ensures.word) inv.words);
       fit = omega (arith, ap length is, pushed leaves (new d), longer d, roomy d);
       memory = omega (arith, c.push.ensures.capacity, longer d, inv.memory);
-      over = subst (λ ls. IsOver ls c.put.new.self) (sym is) (over-push key_in leaves c.self.inside.keys c.put.new.self c.len-place.result (new d) (place_is d) (roomy d) inv.over (keys_are d));
+      over = subst (λ ls. IsOver ls c.put.new.self) (sym is) (over-push number_in leaves c.self.inside.ranks c.put.new.self c.len-place.result (new d) (place_is d) (roomy d) inv.over (keys_are d));
     }
 
 pub returns : goal.returns
 returns c =
     let d = (goal.at.returns c).After-push in
     let leaves = c.self.inside.leaves.items in
-    let keys = c.self.inside.keys in
+    let ranks = c.self.inside.ranks in
     let is = items d in
     let row : Ranked = record { cid = c.args.cid; rank = c.args.rank } in
     let rows = ap rows_of is ∙ (rows-push leaves c.args.cid c.args.rank ∙ ap (λ (o : Order). o.rows ++ row ∷ []) c.self.view_is) in
-    let less : length c.put.new.self - length c.push.new.self.items ≡ (length keys - length leaves) - 1 =
+    let less : length c.put.new.self - length c.push.new.self.items ≡ (length ranks - length leaves) - 1 =
     omega (arith, ap length is, pushed leaves (new d), longer d) in
     let room = less ∙ ap (λ (o : Order). o.room - 1) c.self.view_is in
     λ i. record { rows = rows i; room = room i; last = c.args.cid }

@@ -31,16 +31,16 @@ invariant_of-self c =
       fit = omega (arith, ap length is, long, c.put.ensures.length, inv.fit);
       memory = omega (arith, c.put.ensures.memory, c.put.ensures.length, inv.memory);
       words = c.put.ensures.words inv.words;
-      over = c.put.ensures.keys;
+      over = c.put.ensures.ranks;
     }
 
 pub returns : goal.returns
 returns c =
     let leaves = c.self.inside.leaves.items in
-    let keys = c.self.inside.keys in
+    let ranks = c.self.inside.ranks in
     let is = items c in
     let rows = ap rows_of is ∙ (rows-gone c.args.cid leaves ∙ ap (λ (o : Order). without c.args.cid o.rows) c.self.view_is) in
-    let fewer : length c.put.new.keys - length c.put.new.leaves.items ≡ length keys - length leaves =
+    let fewer : length c.put.new.ranks - length c.put.new.leaves.items ≡ length ranks - length leaves =
     omega (arith, ap length is, length-with_leaf (new c) leaves, c.put.ensures.length) in
     let room = fewer ∙ ap (λ (o : Order). o.room) c.self.view_is in
     let last = ap (λ (o : Order). o.last) c.self.view_is in

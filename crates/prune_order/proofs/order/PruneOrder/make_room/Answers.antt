@@ -1,8 +1,8 @@
 use Rattle.std.proofs.Common.{◌≡◌, List, length, subst, sym, ap, arith, ◌∙◌}
-use Rattle.least_tree.specs.Numbers.{with_room}
-use Rattle.least_tree.proofs.Over.{over-anew, length-anew}
-use Rattle.prune_order.specs.Keys.{key_in, keys_in}
-use Rattle.prune_order.specs.Kept.{AreRising, AreUpTo, AreOfWords, IsOver}
+use Rattle.least_tree.specs.Numbers.{IsLaid}
+use Rattle.least_tree.proofs.Over.{over-anew}
+use Rattle.prune_order.specs.Numbers.{number_in, numbers_in}
+use Rattle.prune_order.specs.Kept.{AreRising, AreUpTo, AreOfWord, IsOver}
 use Rattle.prune_order.specs.Leaves.{rows_of, those_there}
 use Rattle.prune_order.specs.Order.{Order}
 use Rattle.prune_order.specs.declared.leaf.Leaf.{Leaf}
@@ -17,10 +17,10 @@ invariant_of-self c =
     record {
       rise = subst AreRising (sym same) inv.rise;
       up_to = subst (AreUpTo c.self.inside.last) (sym same) inv.up_to;
-      words = subst AreOfWords (sym same) inv.words;
+      words = subst AreOfWord (sym same) inv.words;
       fit = omega (arith, ap length same, inv.fit);
       memory = omega (arith, c.in_err-try_reserve.ensures.capacity, inv.memory);
-      over = subst (λ ls. IsOver ls c.self.inside.keys) (sym same) inv.over;
+      over = subst (λ ls. IsOver ls c.self.inside.ranks) (sym same) inv.over;
     }
 
 pub invariant_of-self-2 : goal.invariant_of-self-2
@@ -28,16 +28,15 @@ invariant_of-self-2 c =
     let leaves : List Leaf = c.self.inside.leaves.items in
     let inv = c.self.invariant in
     let is : c.drop_gone.new.leaves.items ≡ those_there leaves = c.drop_gone.ensures.leaves ∙ ap those_there c.in_ok-try_reserve.ensures.items in
-    let keys_are : c.in_ok-keys.keys ≡ with_room (keys_in (those_there leaves)) =
-    c.in_ok-keys.ensures ∙ ap (λ ls. with_room (keys_in (those_there ls))) c.deref.ensures.value in
-    let long = length-anew key_in (those_there leaves) c.in_ok-keys.keys keys_are in
+    let laid : IsLaid (numbers_in (those_there leaves)) c.in_ok-ranks.ranks =
+    subst (λ ls. IsLaid (numbers_in (those_there ls)) c.in_ok-ranks.ranks) c.deref.ensures.value c.in_ok-ranks.ensures.laid in
     record {
       rise = subst AreRising (sym is) (rise-dropped leaves inv.rise);
       up_to = subst (AreUpTo c.self.inside.last) (sym is) (up_to-dropped leaves c.self.inside.last inv.up_to);
-      words = subst AreOfWords (sym is) (words-dropped leaves inv.words);
-      fit = omega (arith, ap length is, long);
+      words = subst AreOfWord (sym is) (words-dropped leaves inv.words);
+      fit = omega (arith, ap length is, c.in_ok-ranks.ensures.room, ap (λ ls. length (those_there ls)) c.deref.ensures.value);
       memory = omega (arith, c.drop_gone.ensures.memory, c.in_ok-try_reserve.ensures.ok, c.saturating_sub-more.ensures, c.len-3.ensures, c.len-4.ensures, c.in_ok-try_reserve.ensures.len);
-      over = subst (λ ls. IsOver ls c.in_ok-keys.keys) (sym is) (over-anew key_in (those_there leaves) c.in_ok-keys.keys keys_are);
+      over = subst (λ ls. IsOver ls c.in_ok-ranks.ranks) (sym is) (over-anew number_in (those_there leaves) c.in_ok-ranks.ranks laid);
     }
 
 pub returns-clause-rows : goal.returns-clause-rows

@@ -11,11 +11,11 @@ use Rattle.peer_book.proofs.Edits.{IsRising-put_in, length-put_in}
 use Rattle.peer_book.proofs.Listing.{address_of, InOrder, listed-rises, listed-within, listed-with_new}
 use Rattle.peer_book.proofs.Places.{insert-place}
 use Rattle.peer_book.proofs.Rising.{is_under}
-use Rattle.peer_book.proofs.kept.Kept.put.Goals as goal
+use Rattle.peer_book.proofs.kept.Kept.put_at.Goals as goal
 
 pub insert-requires : goal.insert-requires
 insert-requires c =
-    omega (arith, c.place_of_peer-place.ensures, prefix_len-le-length (is_under address_of c.args.peer.addr) c.args.self.now.peers)
+    omega (arith, c.requires.place, prefix_len-le-length (is_under address_of c.args.peer.addr) c.args.self.now.peers)
 
 pub insert-requires-2-clause-rising : goal.insert-requires-2-clause-rising
 insert-requires-2-clause-rising c =
@@ -38,7 +38,7 @@ pub returns-clause-put : goal.returns-clause-put
 returns-clause-put c =
     let peers : List Peer = c.args.self.now.peers in
     c.in_ok-insert.ensures.ok
-    ∙ (ap (λ n. insert peers n c.args.peer) c.place_of_peer-place.ensures ∙ insert-place address_of c.args.peer peers)
+    ∙ (ap (λ n. insert peers n c.args.peer) c.requires.place ∙ insert-place address_of c.args.peer peers)
 
 pub returns-clause-kept : goal.returns-clause-kept
 returns-clause-kept c =
