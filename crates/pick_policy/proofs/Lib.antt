@@ -2,9 +2,11 @@ pub mod Distinct
 pub mod LeastLaws
 pub mod LeastLemmas
 pub mod Members
+pub mod OneMore
 pub mod PickFacts
 pub mod Picking
 pub mod RisingLeast
 pub mod ScoreOrder
 pub mod Selecting
+pub mod ShortLists
 pub mod Sorting

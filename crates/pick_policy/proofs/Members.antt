@@ -1,5 +1,5 @@
 -- What stands in a list, and what a filter keeps of it.
-use Rattle.std.proofs.Common.{◌≡◌, suc, zero, Bool, true, false, cond, List, [], ◌∷◌, refl, sym, ap, ◌∙◌, subst, inl, inr, ◌⊎◌, arith}
+use Rattle.std.proofs.Common.{◌≡◌, suc, zero, Bool, true, false, cond, List, [], ◌∷◌, ◌++◌, refl, sym, ap, ◌∙◌, subst, inl, inr, ◌⊎◌, arith}
 use Rattle.std.specs.List.{filter, Contains, AllByRecursion}
 
 abbrev pub Has : {X : Type 0} → List X → X → Type 0
@@ -18,6 +18,25 @@ pub Has-from_Contains : {X : Type 0} (xs : List X) (x : X) → Contains xs x →
 Has-from_Contains [] x h = absurd (omega (arith, h.1))
 Has-from_Contains (y ∷ ys) x (zero, inside, e) = inl e
 Has-from_Contains (y ∷ ys) x (suc k, inside, e) = inr (Has-from_Contains ys x (k, omega (arith, inside), e))
+
+-- ---- one list behind another
+
+pub Has-front : {X : Type 0} (xs ys : List X) (x : X) → Has xs x → Has (xs ++ ys) x
+Has-front [] ys x h = absurd h
+Has-front (z ∷ zs) ys x (inl e) = inl e
+Has-front (z ∷ zs) ys x (inr h) = inr (Has-front zs ys x h)
+
+pub Has-last : {X : Type 0} (xs : List X) (y : X) → Has (xs ++ y ∷ []) y
+Has-last [] y = inl refl
+Has-last (z ∷ zs) y = inr (Has-last zs y)
+
+pub Has-cases : {X : Type 0} (xs : List X) (y x : X) → Has (xs ++ y ∷ []) x → Has xs x ⊎ (y ≡ x)
+Has-cases [] y x (inl e) = inr e
+Has-cases [] y x (inr h) = absurd h
+Has-cases (z ∷ zs) y x (inl e) = inl (inl e)
+Has-cases (z ∷ zs) y x (inr h) = elim (Has-cases zs y x h) [ inl k ↦ inl (inr k) | inr e ↦ inr e ]
+
+-- ---- filters
 
 pub Has-filter : {X : Type 0} (p : X → Bool) (xs : List X) (x : X) → Has xs x → p x ≡ true → Has (filter p xs) x
 Has-filter p [] x h k = absurd h

@@ -61,13 +61,13 @@ module _ {X : Type 0} {below : X → X → Bool} (strict : IsStrict below) where
 
   -- ---- of the same things in rising order, the first so many
 
-  Has-take : (k : ℕ) (S : List X) (x : X) → Has (take k S) x → Has S x
+  pub Has-take : (k : ℕ) (S : List X) (x : X) → Has (take k S) x → Has S x
   Has-take zero S x h = absurd h
   Has-take (suc k) [] x h = absurd h
   Has-take (suc k) (a ∷ S) x (inl e) = inl e
   Has-take (suc k) (a ∷ S) x (inr h) = inr (Has-take k S x h)
 
-  Rises-take : (k : ℕ) (S : List X) → Rises below S → Rises below (take k S)
+  pub Rises-take : (k : ℕ) (S : List X) → Rises below S → Rises below (take k S)
   Rises-take zero S rises = tt
   Rises-take (suc k) [] rises = tt
   Rises-take (suc k) (a ∷ S) rises = (
@@ -75,7 +75,7 @@ module _ {X : Type 0} {below : X → X → Bool} (strict : IsStrict below) where
     Rises-take k S rises.1,
   )
 
-  taken_or_above : (k : ℕ) (S : List X) (x : X) → Rises below S → Has S x →
+  pub taken_or_above : (k : ℕ) (S : List X) (x : X) → Rises below S → Has S x →
       Has (take k S) x ⊎ (AllByRecursion (λ y. below y x ≡ true) (take k S) × (length (take k S) ≡ k))
   taken_or_above zero S x rises h = inr (tt, refl)
   taken_or_above (suc k) [] x rises h = absurd h

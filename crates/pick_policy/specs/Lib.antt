@@ -1,3 +1,4 @@
+pub mod Kept
 pub mod Least
 pub mod Ordered
 pub mod Picks

@@ -6,6 +6,7 @@ mod picker;
 mod ranked_picker;
 mod rated;
 mod scored;
+mod short_list;
 
 pub use laws::picks_are_the_least;
 pub use picker::Picker;

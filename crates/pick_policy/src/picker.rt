@@ -1,4 +1,4 @@
-ghost use Rattle.std.specs.Prelude.{◌≡◌, ℕ, map, IfOk};
+ghost use Rattle.std.specs.Prelude.{◌≡◌, ℕ, ◌≤◌, map, IfOk};
 ghost use Rattle.std.specs.List.{IsDistinct};
 ghost use Rattle.net_base.specs.Address.{same_address};
 ghost use Rattle.net_base.specs.declared.address.Addr.{Addr};
@@ -7,6 +7,7 @@ ghost use Rattle.pick_policy.specs.Picks.{picked};
 ghost use Rattle.pick_policy.specs.Scores.{score_of};
 
 use crate::scored::{Scored, least};
+use crate::short_list::{FEW, ShortList};
 use net_base::{Addr, AddrList, OutOfMemory};
 use std::alloc::{AllocError, Global};
 
@@ -45,8 +46,29 @@ impl Picker {
         if k == 0 {
             return Ok(AddrList::new(alloc));
         }
+        if k <= FEW {
+            return self.pick_few(alloc, cands, k, word);
+        }
         let mut scored = self.scores(alloc, cands, word)?;
         least(alloc, &mut scored, k)
+    }
+
+    fn pick_few(
+        &self,
+        alloc: Global,
+        cands: &[Addr],
+        k: usize,
+        word: u64,
+    ) -> Result<AddrList, OutOfMemory>
+        requires few { k ≤ 16 }
+        requires distinct { IsDistinct same_address cands.now }
+        ensures { IfOk result (λ picks. picks ≡ picked cands.now k word) }
+    {
+        let mut list = ShortList::new(alloc, k)?;
+        for addr in cands {
+            list.offer(self.scored(*addr, word))?;
+        }
+        list.addresses(alloc)
     }
 
     fn scores(&self, alloc: Global, cands: &[Addr], word: u64) -> Result<Vec<Scored>, AllocError>

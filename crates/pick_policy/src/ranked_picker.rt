@@ -1,4 +1,4 @@
-ghost use Rattle.std.specs.Prelude.{◌≡◌, ℕ, map, IfOk};
+ghost use Rattle.std.specs.Prelude.{◌≡◌, ℕ, ◌≤◌, map, IfOk};
 ghost use Rattle.std.specs.List.{IsDistinct};
 ghost use Rattle.net_base.specs.Address.{same_address};
 ghost use Rattle.net_base.specs.declared.address.Addr.{Addr};
@@ -8,6 +8,7 @@ ghost use Rattle.pick_policy.specs.Scores.{ranked_score_of};
 
 use crate::Rated;
 use crate::scored::{Scored, least};
+use crate::short_list::{FEW, ShortList};
 use net_base::{Addr, AddrList, OutOfMemory};
 use std::alloc::{AllocError, Global};
 
@@ -48,8 +49,29 @@ impl RankedPicker {
         if k == 0 {
             return Ok(AddrList::new(alloc));
         }
+        if k <= FEW {
+            return self.pick_few(alloc, cands, k, word);
+        }
         let mut scored = self.scores(alloc, cands, word)?;
         least(alloc, &mut scored, k)
+    }
+
+    fn pick_few(
+        &self,
+        alloc: Global,
+        cands: &[Rated],
+        k: usize,
+        word: u64,
+    ) -> Result<AddrList, OutOfMemory>
+        requires few { k ≤ 16 }
+        requires distinct { IsDistinct same_address (map (λ r. r.addr) cands.now) }
+        ensures { IfOk result (λ picks. picks ≡ ranked cands.now k word) }
+    {
+        let mut list = ShortList::new(alloc, k)?;
+        for candidate in cands {
+            list.offer(self.scored(*candidate, word))?;
+        }
+        list.addresses(alloc)
     }
 
     fn scores(&self, alloc: Global, cands: &[Rated], word: u64) -> Result<Vec<Scored>, AllocError>

@@ -14,6 +14,15 @@ pub struct Scored {
     pub addr: Addr,
 }
 
+impl Scored {
+    pub fn is_before(&self, other: &Scored) -> bool
+        ensures { result ≡ scored_below self.now other.now }
+    {
+        // what the derived comparison says too, in fewer instructions
+        self.score < other.score || (self.score == other.score && self.addr.is_before(&other.addr))
+    }
+}
+
 // The addresses of the least k. Where there are more, the others are only set apart, and not sorted.
 pub fn least(alloc: Global, scored: &mut [Scored], k: usize) -> Result<AddrList, OutOfMemory>
     requires { IsDistinct same_address (map (λ s. s.addr) scored.old) }
@@ -35,7 +44,7 @@ fn in_order(alloc: Global, scored: &mut [Scored]) -> Result<AddrList, OutOfMemor
     Ok(AddrList::from_vec(addresses(alloc, scored)?))
 }
 
-fn addresses(alloc: Global, scored: &[Scored]) -> Result<Vec<Addr>, AllocError>
+pub fn addresses(alloc: Global, scored: &[Scored]) -> Result<Vec<Addr>, AllocError>
     ensures { IfOk result (λ picks. picks.items ≡ map (λ s. s.addr) scored.now) }
 {
     scored.iter().map(|s| s.addr).collect(alloc)

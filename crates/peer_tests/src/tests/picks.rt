@@ -76,6 +76,127 @@ fn of_one_key_the_lower_address_is_picked(rt: HostRuntime) -> Result<(), OutOfMe
     run(&rt, rt.alloc(), &OF_ONE_KEY)
 }
 
+// Two of each key, in no order: the lower one of IPv4, the other of IPv6.
+macro_rules! low {
+    ($port:literal) => {
+        Addr {
+            ip: Ip::V4(5),
+            port: $port,
+        }
+    };
+}
+
+macro_rules! high {
+    ($port:literal) => {
+        Addr {
+            ip: Ip::V6(5),
+            port: $port,
+        }
+    };
+}
+
+const CROWD: [Addr; 20] = [
+    high!(7),
+    low!(3),
+    low!(9),
+    high!(1),
+    low!(5),
+    high!(10),
+    low!(7),
+    high!(2),
+    low!(6),
+    high!(9),
+    low!(4),
+    high!(5),
+    low!(10),
+    low!(2),
+    high!(8),
+    low!(1),
+    high!(4),
+    high!(3),
+    low!(8),
+    high!(6),
+];
+
+const IN_ORDER: [Addr; 20] = [
+    low!(1),
+    high!(1),
+    low!(2),
+    high!(2),
+    low!(3),
+    high!(3),
+    low!(4),
+    high!(4),
+    low!(5),
+    high!(5),
+    low!(6),
+    high!(6),
+    low!(7),
+    high!(7),
+    low!(8),
+    high!(8),
+    low!(9),
+    high!(9),
+    low!(10),
+    high!(10),
+];
+
+/// Under this word those of port 6 have the score 0, and those of port 5 the score 2^64 - 1.
+const SIX_FIRST: u64 = 18_446_744_073_709_223_930;
+
+const FROM_SIX: [Addr; 20] = [
+    low!(6),
+    high!(6),
+    low!(7),
+    high!(7),
+    low!(8),
+    high!(8),
+    low!(9),
+    high!(9),
+    low!(10),
+    high!(10),
+    low!(1),
+    high!(1),
+    low!(2),
+    high!(2),
+    low!(3),
+    high!(3),
+    low!(4),
+    high!(4),
+    low!(5),
+    high!(5),
+];
+
+fn picks_of_crowd(
+    alloc: Global,
+    picker: &Picker,
+    count: usize,
+    word: u64,
+    want: &[Addr],
+) -> Result<bool, OutOfMemory> {
+    let picked = picker.pick(alloc, &CROWD, count, word)?;
+    Ok(picked.as_slice() == want)
+}
+
+// A list of at most 16 is kept while the candidates pass, and more are set apart and sorted.
+#[test]
+fn few_and_many_of_a_crowd_are_its_least(rt: HostRuntime) -> Result<(), OutOfMemory> {
+    let alloc = rt.alloc();
+    let picker = Picker::new(Box::new(alloc, |addr: Addr, word: u64| {
+        addr.key().wrapping_add(word)
+    })?);
+    for (word, order) in [(0, &IN_ORDER), (SIX_FIRST, &FROM_SIX)] {
+        for count in [1, 2, 3, 10, 15, 16, 17, 20] {
+            let want = &order[..count];
+            assert!(rt;
+                picks_of_crowd(alloc, &picker, count, word, want)?,
+                "{count} under {word}"
+            );
+        }
+    }
+    Ok(())
+}
+
 const RATED: [Rated; 3] = [
     Rated {
         addr: A2,
