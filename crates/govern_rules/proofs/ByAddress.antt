@@ -87,7 +87,7 @@ in_order-front l (k ∷ links) upto h = ((upto, none_below l k links upto h.0), 
 -- ---- the order of their addresses
 
 -- no address is below one before it
-abbrev IsByAddress : List Link → Type 0
+abbrev pub IsByAddress : List Link → Type 0
 IsByAddress [] = Unit {0}
 IsByAddress (l ∷ links) = AllByRecursion (λ k. address_below k.addr l.addr ≡ false) links × IsByAddress links
 
@@ -96,11 +96,11 @@ none_lower : (l : Link) (links : List Link) → AllByRecursion (λ k. link_below
 none_lower l [] h = tt
 none_lower l (k ∷ links) h = (grind (arith, h.0), none_lower l links h.1)
 
-by_address : (links : List Link) → IsInOrder links → IsByAddress links
+pub by_address : (links : List Link) → IsInOrder links → IsByAddress links
 by_address [] h = tt
 by_address (l ∷ links) h = (none_lower l links h.0, by_address links h.1)
 
-in_order : (links : List Link) → IsByAddress links → (i j : ℕ) (d : Link) → i ≤ j → j < length links →
+pub in_order : (links : List Link) → IsByAddress links → (i j : ℕ) (d : Link) → i ≤ j → j < length links →
     address_below (get_or links j d).addr (get_or links i d).addr ≡ false
 in_order [] h i j d upto inside = absurd (omega (arith, inside))
 in_order (l ∷ links) h zero zero d upto inside = address_irreflexive l.addr
@@ -110,7 +110,7 @@ in_order (l ∷ links) h (suc i) (suc j) d upto inside = in_order links h.1 i j 
 
 -- ---- what is not above an address below another
 
-under_lower : (a b addr : Addr) → address_below b a ≡ false → address_below b addr ≡ true → address_below a addr ≡ true
+pub under_lower : (a b addr : Addr) → address_below b a ≡ false → address_below b addr ≡ true → address_below a addr ≡ true
 under_lower a b addr upto under = elim (cases_Bool (address_below a addr)) [
   | inl h ↦ h
   | inr over ↦ elim (cases_Bool (same_address a addr)) [

@@ -8,6 +8,8 @@ pub mod Known
 pub mod Picking
 pub mod Rows
 pub mod SameViews
+pub mod Seeing
+pub mod Spots
 pub mod Suiting
 pub mod Tasks
 pub mod Walking

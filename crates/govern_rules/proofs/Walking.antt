@@ -1,17 +1,17 @@
 -- Walks past links in order of address.
-use Rattle.std.proofs.Common.{◌≡◌, ℕ, zero, suc, ◌+◌, ◌-◌, ◌<◌, ◌≤◌, true, false, List, [], ◌∷◌, length, take, drop, get_or, Option, Some, None, slice_get, refl, sym, ap, subst, ◌∙◌, inl, inr, arith}
+use Rattle.std.proofs.Common.{◌≡◌, ℕ, zero, suc, ◌+◌, ◌-◌, ◌<◌, ◌≤◌, Bool, true, false, ◌&&◌, not, List, [], ◌∷◌, length, take, drop, get_or, Option, Some, None, slice_get, refl, sym, ap, subst, ◌∙◌, inl, inr, arith}
 use Rattle.std.specs.List.{prefix_len}
-use Rattle.std.proofs.lemmas.Bool.{cases_Bool, cases_lt, false≢true}
+use Rattle.std.proofs.lemmas.Bool.{cases_Bool, cases_lt, false≢true, and_parts}
 use Rattle.std.proofs.lemmas.List.{drop-take, drop_all, drop_more, get_or-drop, get_or-take, length-drop, length-take}
 use Rattle.std.proofs.lemmas.List.Sums.{prefix_len-drop_all, prefix_len-le-length, prefix_len_is, prefix_len_passes, prefix_len_stops}
 use Rattle.std.proofs.lemmas.Option.{slice_get-get_or}
 use Rattle.net_base.specs.Address.{same_address, address_below}
 use Rattle.net_base.specs.declared.address.Addr.{Addr}
-use Rattle.net_base.proofs.AddressOrder.{address_connected, address_transitive, address_turned, never_both, same_address-is}
+use Rattle.net_base.proofs.AddressOrder.{address_irreflexive, address_connected, address_transitive, address_turned, never_both, same_address-is}
 use Rattle.govern_rules.specs.SortedLinks.{IsInOrder, is_below, links_of}
-use Rattle.govern_rules.specs.Walks.{IsRunFrom, HasCome, passed_by, is_over, is_before_at, is_below_at, has_address_at}
+use Rattle.govern_rules.specs.Walks.{IsRunFrom, HasCome, passed_by, is_over, is_before_at, is_below_at, is_not_below_at, has_address_at}
 use Rattle.govern_rules.specs.declared.link.Link.{Link}
-use Rattle.govern_rules.proofs.ByAddress.{in_order-drop, none_behind, own_behind}
+use Rattle.govern_rules.proofs.ByAddress.{by_address, in_order, in_order-drop, none_behind, own_behind, under_lower}
 
 -- ---- what stands together from a place on
 
@@ -40,7 +40,7 @@ module _ {X : Type 0} where
   pub run-next : (items run after : List X) (place : ℕ) → IsRunFrom place items run → 0 < length run → after ≡ drop 1 run → IsRunFrom (place + 1) items after
   run-next items run after place front some is = subst (IsRunFrom (place + 1) items) (sym is) (run-later items run place 1 front (omega (arith, some)))
 
-  within : (items run : List X) (place : ℕ) → IsRunFrom place items run → length run ≤ length items - place
+  pub within : (items run : List X) (place : ℕ) → IsRunFrom place items run → length run ≤ length items - place
   within items run place front =
       omega (arith, ap length front, length-take (length run) (drop place items), length-drop place items)
 
@@ -113,6 +113,71 @@ go_on addr [] last place run come over ends =
     let least : place ≤ 0 = omega (arith, few_passed last [], come.passed) in
     omega (arith, least, within [] run place come.front, prefix_len-le-length (is_below addr) run)
 go_on addr (l ∷ links) last place run come over ends = sym (passed_from addr (l ∷ links) last place run l come over ends)
+
+-- it goes on by one, where the next is below and the one after that is not
+pub one_further : (addr : Addr) (links : List Link) (last : Option Addr) (place : ℕ) (run : List Link) → HasCome links last place run →
+    (is_below_at addr (slice_get run 0) && is_not_below_at addr (slice_get run 1)) ≡ true → place + 1 ≡ prefix_len (is_below addr) links
+one_further addr links last place [] come both = absurd (false≢true both)
+one_further addr links last place (f ∷ []) come both = absurd (false≢true (and_parts (is_below addr f) false both).1)
+one_further addr links last place (f ∷ s ∷ rest) come both =
+    let parts = and_parts (is_below addr f) (not (is_below addr s)) both in
+    let room = within links run place come.front in
+    sym (prefix_len_is (is_below addr) links (place + 1) f (omega (arith, room)) (passes room parts.0) (stops room parts.1))
+  where
+    run : List Link
+    run = f ∷ s ∷ rest
+
+    same_place : place + 0 ≡ place
+    same_place = omega arith
+
+    first : get_or links place f ≡ f
+    first = ap (λ n. get_or links n f) (sym same_place) ∙ sym (run-item links run place 0 f come.front (omega arith))
+
+    second : get_or links (place + 1) f ≡ s
+    second = sym (run-item links run place 1 f come.front (omega arith))
+
+    not_turned : (b : Bool) → not b ≡ true → b ≡ false
+    not_turned true h = absurd (false≢true h)
+    not_turned false h = refl
+
+    passes : length run ≤ length links - place → is_below addr f ≡ true → (k : ℕ) → k < place + 1 → is_below addr (get_or links k f) ≡ true
+    passes room under k before =
+        under_lower (get_or links k f).addr (get_or links place f).addr addr
+        (in_order links (by_address links come.ordered) k place f (omega (arith, before)) (omega (arith, room)))
+        (ap (is_below addr) first ∙ under)
+
+    stops : length run ≤ length links - place → not (is_below addr s) ≡ true → place + 1 < length links → is_below addr (get_or links (place + 1) f) ≡ false
+    stops room over inside = ap (is_below addr) second ∙ not_turned (is_below addr s) over
+
+-- it has come already, where the next link has the address
+pub come_already : (addr : Addr) (links : List Link) (last : Option Addr) (place : ℕ) (run : List Link) → HasCome links last place run →
+    has_address_at addr (slice_get run 0) ≡ true → place ≡ prefix_len (is_below addr) links
+come_already addr links last place [] come same = absurd (false≢true same)
+come_already addr links last place (f ∷ run) come same = sym (prefix_len_is (is_below addr) links place f (omega (arith, room)) passes stops)
+  where
+    room : length (f ∷ run) ≤ length links - place
+    room = within links (f ∷ run) place come.front
+
+    same_place : place + 0 ≡ place
+    same_place = omega arith
+
+    here : get_or links place f ≡ f
+    here = ap (λ n. get_or links n f) (sym same_place) ∙ sym (run-item links (f ∷ run) place 0 f come.front (omega arith))
+
+    is_it : f.addr ≡ addr
+    is_it = same_address-is f.addr addr same
+
+    not_over : (o : Option Addr) → place ≡ passed_by o links → is_over o addr ≡ false
+    not_over None at = refl
+    not_over (Some l) at =
+        sym (ap (λ a. address_below a l) (ap (λ x. x.addr) here ∙ is_it))
+        ∙ (ap (λ n. address_below (get_or links n f).addr l) at ∙ prefix_len_stops (is_below l) links f (omega (arith, room, at)))
+
+    passes : (k : ℕ) → k < place → is_below addr (get_or links k f) ≡ true
+    passes k before = still_passed addr last links k f (not_over last come.passed) (omega (arith, before, come.passed))
+
+    stops : place < length links → is_below addr (get_or links place f) ≡ false
+    stops inside = ap (is_below addr) here ∙ (ap (λ a. address_below a addr) is_it ∙ address_irreflexive addr)
 
 -- ---- where the first that is not below an address has another one, none has it
 

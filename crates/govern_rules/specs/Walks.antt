@@ -29,6 +29,11 @@ pub record HasCome (links : List Link) (last : Option Addr) (place : ℕ) (run :
   pub front : IsRunFrom place links run
   pub some : place < length links → 0 < length run
 
+-- where the links of an address begin, or would, and what stands together from there on
+pub record IsSpot (addr : Addr) (links : List Link) (place : ℕ) (run : List Link) : Type 0 where
+  pub behind : place ≡ prefix_len (is_below addr) links
+  pub front : IsRunFrom place links run
+
 -- there is no link, or an address is below its own
 abbrev pub is_before_at : Addr → Option Link → Bool
 is_before_at addr None = true
@@ -43,6 +48,11 @@ is_below_at addr (Some l) = is_below addr l
 abbrev pub has_address_at : Addr → Option Link → Bool
 has_address_at addr None = false
 has_address_at addr (Some l) = same_address l.addr addr
+
+-- there is a link, and its address is not below one
+abbrev pub is_not_below_at : Addr → Option Link → Bool
+is_not_below_at addr None = false
+is_not_below_at addr (Some l) = not (is_below addr l)
 
 -- there is a link, and it has another address
 abbrev pub has_other_address_at : Addr → Option Link → Bool

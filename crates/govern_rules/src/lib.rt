@@ -15,14 +15,18 @@ mod nearby;
 mod numbers;
 mod order;
 mod orders;
+mod promotable;
 mod rules;
 mod search;
+mod seen;
+mod spot;
 mod status;
 mod task;
 mod task_orders;
 mod valency;
 mod view;
 mod walk;
+mod wanted;
 mod whom;
 
 pub use big_rule::BigRule;

@@ -1,13 +1,15 @@
-ghost use Rattle.std.specs.Prelude.{◌≡◌, drop, slice_index_or};
+ghost use Rattle.std.specs.Prelude.{◌≡◌, drop};
 ghost use Rattle.std.specs.List.{list_any, prefix_len};
 ghost use Rattle.net_base.specs.declared.address.Addr.{Addr};
 ghost use Rattle.govern_rules.specs.Lent.{AreLent};
 ghost use Rattle.govern_rules.specs.Links.{some_link};
 ghost use Rattle.govern_rules.specs.Marks.{has_mark};
 ghost use Rattle.govern_rules.specs.SortedLinks.{AreNotBelow, IsInOrder, is_below, links_of};
+ghost use Rattle.govern_rules.specs.Walks.{IsSpot};
 
 use crate::Link;
 use crate::mark::{Mark, has_mark};
+use crate::spot::Spot;
 use crate::walk::Walk;
 use chunked_list::ChunkedList;
 use net_base::Addr;
@@ -49,26 +51,30 @@ impl<'a> LinkList<'a> {
         Walk::new(self.all)
     }
 
-    // How many links have an address below one.
-    pub(crate) fn start_of(&self, addr: &Addr) -> usize
-        ensures { result ≡ prefix_len (is_below addr.now) self.now }
+    // Where the links of an address begin, or would.
+    pub(crate) fn spot_of(&self, addr: &Addr) -> Spot<'a>
+        ensures { IsSpot addr.now self.now result.place result.run.now }
     {
-        start_of(self.all, addr)
+        Spot {
+            place: start_of(self.all, addr),
+            run: &[],
+        }
     }
 
-    // Some link of an address has a mark, where so many have an address below it.
-    pub(crate) fn some_at(&self, start: usize, addr: &Addr, mark: Mark) -> bool
-        requires { start ≡ prefix_len (is_below addr.now) self.now }
+    // Some link of an address has a mark, where they begin there.
+    #[inline(always)]
+    pub(crate) fn some_at(&self, spot: Spot, addr: &Addr, mark: Mark) -> bool
+        requires { IsSpot addr.now self.now spot.place spot.run.now }
         ensures { result ≡ list_any (has_mark mark) (links_of addr.now self.now) }
     {
-        some_from(self.all, start, addr, mark)
+        some_at(self.all, spot, addr, mark)
     }
 
     // Some link of an address has a mark.
     pub(crate) fn some(&self, addr: &Addr, mark: Mark) -> bool
         ensures { result ≡ some_link (has_mark mark) self.now addr.now }
     {
-        self.some_at(self.start_of(addr), addr, mark)
+        self.some_at(self.spot_of(addr), addr, mark)
     }
 
     // Links that are enough to see who has a mark: few, where rules count by it.
@@ -91,8 +97,30 @@ pub fn start_of(links: &ChunkedList<Link>, addr: &Addr) -> usize
     links.partition_point(|link| link.addr.is_before(addr))
 }
 
-// Some of the links from a place on that have an address has a mark. None of them has an address below it.
+// Some link of an address has a mark, where they begin there. Those at hand are not looked for.
 #[inline(always)]
+fn some_at(links: &ChunkedList<Link>, spot: Spot, addr: &Addr, mark: Mark) -> bool
+    requires ordered { IsInOrder links.now }
+    requires spot { IsSpot addr.now links.now spot.place spot.run.now }
+    ensures { result ≡ list_any (has_mark mark) (links_of addr.now links.now) }
+{
+    for link in spot.run {
+        if !link.addr.is_same(addr) {
+            return false;
+        }
+        if has_mark(mark, link) {
+            return true;
+        }
+    }
+    let count = links.len();
+    let next = spot.place + spot.run.len();
+    if next == count {
+        return false;
+    }
+    some_from(links, next, addr, mark)
+}
+
+// Some of the links from a place on that have an address has a mark. None of them has an address below it.
 pub fn some_from(links: &ChunkedList<Link>, start: usize, addr: &Addr, mark: Mark) -> bool
     requires ordered { IsInOrder links.now }
     requires above { AreNotBelow addr.now (drop start links.now) }

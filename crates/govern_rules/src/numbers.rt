@@ -1,4 +1,4 @@
-ghost use Rattle.std.specs.Prelude.{◌≡◌};
+ghost use Rattle.std.specs.Prelude.{◌≡◌, ◌-◌};
 ghost use Rattle.peer_book.specs.Book.{known_of, established_of, active_of};
 ghost use Rattle.govern_rules.specs.ClassRules.{known_target, established_target, active_target};
 ghost use Rattle.govern_rules.specs.Tasks.{number_of};
@@ -36,8 +36,15 @@ fn to_ask(big: bool, view: &View, book: &PeerBook) -> u64
 fn to_promote(big: bool, view: &View, book: &PeerBook) -> u64
     ensures { result ≡ number_of Task.Promoting big view.now book.now }
 {
-    let missing = established_target(big, view).saturating_sub(established(big, book));
+    let missing = missing_established(big, view, book);
     without_marked(missing, Mark::Pending, big, view, book)
+}
+
+// How many fewer are established than wanted, whoever is on the way.
+pub fn missing_established(big: bool, view: &View, book: &PeerBook) -> u64
+    ensures { result ≡ established_target big view.now - established_of big book.now }
+{
+    established_target(big, view).saturating_sub(established(big, book))
 }
 
 fn to_activate(big: bool, view: &View, book: &PeerBook) -> u64

@@ -2,11 +2,11 @@ ghost use Rattle.std.specs.Prelude.{◌≡◌, true, false, IfOk};
 ghost use Rattle.govern_rules.specs.Tasks.{task_orders};
 ghost use Rattle.govern_rules.specs.Whom.{is_meant};
 
-use crate::candidates::{candidates, has_nobody};
-use crate::numbers::number_of;
+use crate::candidates::has_nobody;
 use crate::orders::{big_orders, ordinary_orders};
 use crate::search::Search;
 use crate::task::Task;
+use crate::wanted::{Wanted, find_wanted};
 use crate::whom::Whom;
 use crate::{Order, View};
 use net_base::OutOfMemory;
@@ -30,17 +30,16 @@ pub fn ordinary_task(
     if has_nobody(task, book) {
         return Ok(Vec::new(alloc));
     }
-    let number = number_of(task, false, view, book);
-    if number == 0 {
-        return Ok(Vec::new(alloc));
-    }
     let search = Search {
         big: false,
         task,
         whom: *whom,
         view,
     };
-    let cands = candidates(alloc, &search, book)?;
+    let Wanted { number, cands } = find_wanted(alloc, &search, book)?;
+    if number == 0 {
+        return Ok(Vec::new(alloc));
+    }
     ordinary_orders(alloc, task, number, view.word, &cands, picker)
 }
 
@@ -58,16 +57,15 @@ pub fn big_task(
     if has_nobody(task, book) {
         return Ok(Vec::new(alloc));
     }
-    let number = number_of(task, true, view, book);
-    if number == 0 {
-        return Ok(Vec::new(alloc));
-    }
     let search = Search {
         big: true,
         task,
         whom: *whom,
         view,
     };
-    let cands = candidates(alloc, &search, book)?;
+    let Wanted { number, cands } = find_wanted(alloc, &search, book)?;
+    if number == 0 {
+        return Ok(Vec::new(alloc));
+    }
     big_orders(alloc, task, number, view.word, &cands, picker)
 }

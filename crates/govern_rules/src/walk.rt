@@ -1,10 +1,11 @@
-ghost use Rattle.std.specs.Prelude.{◌≡◌, ◌<◌, ◌-◌, [], true, None, length, slice_get, IfSome};
+ghost use Rattle.std.specs.Prelude.{◌≡◌, ◌<◌, ◌-◌, ◌&&◌, [], true, None, length, slice_get, IfSome};
 ghost use Rattle.std.specs.List.{prefix_len};
 ghost use Rattle.govern_rules.specs.SortedLinks.{IsInOrder, is_below, links_of};
-ghost use Rattle.govern_rules.specs.Walks.{IsRunFrom, is_over, is_before_at, is_below_at, has_address_at};
+ghost use Rattle.govern_rules.specs.Walks.{IsRunFrom, IsSpot, is_over, is_before_at, is_below_at, is_not_below_at, has_address_at};
 
 use crate::Link;
 use crate::links::start_of;
+use crate::spot::Spot;
 use chunked_list::ChunkedList;
 use net_base::Addr;
 use std::marker::Model;
@@ -48,21 +49,31 @@ impl<'a> Walk<'a> {
         }
     }
 
-    // The place of the first link of an address. None where it has no link.
-    pub fn come_to(&mut self, addr: &Addr) -> Option<usize>
+    // Where the links of an address begin. None where it has no link.
+    #[inline(always)]
+    pub fn come_to(&mut self, addr: &Addr) -> Option<Spot<'a>>
         ensures same { self.new ≡ self.old }
-        ensures there { IfSome result (λ place. place ≡ prefix_len (is_below addr.now) self.old) }
+        ensures there { IfSome result (λ spot. IsSpot addr.now self.old spot.place spot.run.now) }
         ensures none { result ≡ None → links_of addr.now self.old ≡ [] }
     {
         if self.has_passed(addr) {
             return None;
+        }
+        if starts_at(self.run, addr) {
+            return Some(Spot {
+                place: self.place,
+                run: self.run,
+            });
         }
         let place = self.place_of(addr);
         let run = self.run_from(place);
         self.last = Some(*addr);
         self.place = place;
         self.run = run;
-        starts_at(run, addr).then_some(place)
+        if !starts_at(run, addr) {
+            return None;
+        }
+        Some(Spot { place, run })
     }
 
     // Whether an address is below that of the first link at hand, and not below the one that was asked for last: so it has
@@ -73,8 +84,19 @@ impl<'a> Walk<'a> {
         is_before_first(addr, self.run) && !is_over(&self.last, addr)
     }
 
-    // How many links have an address below one.
+    // How many links have an address below one. Where a walk goes on, that is mostly one more.
+    #[inline(always)]
     fn place_of(&self, addr: &Addr) -> usize
+        ensures { result ≡ prefix_len (is_below addr.now) self.now }
+    {
+        if self.place < self.links.len() && is_before_second(addr, self.run) {
+            return self.place + 1;
+        }
+        self.place_further(addr)
+    }
+
+    // The same, however many more.
+    fn place_further(&self, addr: &Addr) -> usize
         ensures { result ≡ prefix_len (is_below addr.now) self.now }
     {
         if is_over(&self.last, addr) || ends_below(self.run, addr) {
@@ -98,6 +120,16 @@ impl<'a> Walk<'a> {
             }
             _ => self.links.run_from(place),
         }
+    }
+}
+
+// Whether the first of some links has an address below one, and the second hasn't.
+fn is_before_second(addr: &Addr, run: &[Link]) -> bool
+    ensures { result ≡ (is_below_at addr.now (slice_get run.now 0) && is_not_below_at addr.now (slice_get run.now 1)) }
+{
+    match run {
+        [first, second, ..] => first.addr.is_before(addr) && !second.addr.is_before(addr),
+        _ => false,
     }
 }
 

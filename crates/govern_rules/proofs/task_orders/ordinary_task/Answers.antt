@@ -1,4 +1,4 @@
-use Rattle.std.proofs.Common.{◌≡◌, false, IfOk, sym, subst, ◌∙◌}
+use Rattle.std.proofs.Common.{◌≡◌, ◌<◌, false, IfOk, sym, subst, ◌∙◌, arith}
 use Rattle.govern_rules.specs.Tasks.{order_of, number_of, is_candidate}
 use Rattle.govern_rules.specs.Whom.{is_meant}
 use Rattle.govern_rules.specs.declared.search.Search.{Search}
@@ -22,12 +22,14 @@ returns-then-number-eq0 g c =
     c.new-then-number-eq0.ensures.items
     ∙ sym (no-orders false view.word (order_of task) (number_of task false view book)
     (is_candidate task (is_meant c.args.whom.now) view.moment view.links) book
-    (sym c.number_of-number.ensures ∙ c.if-number-eq0.true))
+    (sym c.in_ok-number.ensures.number ∙ c.if-number-eq0.true))
 
 pub returns : goal.returns
 returns g c =
     let search : Search = record { big = false; task = c.args.task; whom = c.args.whom.now; view = c.args.view } in
-    let cands = c.in_ok-cands.cands in
+    let number = c.in_ok-number.field-0.number in
+    let some : 0 < number = omega (arith, c.if-number-eq0.false) in
     subst (λ l. IfOk c.ordinary_orders.result (λ orders. orders.items ≡ l))
-    (orders-picked search c.args.book.now cands c.number_of-number.result c.number_of-number.ensures c.in_ok-cands.ensures.value c.in_ok-cands.ensures.apart)
+    (orders-picked search c.args.book.now c.in_ok-number.field-0.cands number c.in_ok-number.ensures.number
+    (c.in_ok-number.ensures.cands some) (c.in_ok-number.ensures.apart some))
     c.ordinary_orders.ensures
