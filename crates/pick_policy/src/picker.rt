@@ -60,7 +60,7 @@ impl Picker {
         k: usize,
         word: u64,
     ) -> Result<AddrList, OutOfMemory>
-        requires few { k ≤ 16 }
+        requires few { k ≤ 32 }
         requires distinct { IsDistinct same_address cands.now }
         ensures { IfOk result (λ picks. picks ≡ picked cands.now k word) }
     {

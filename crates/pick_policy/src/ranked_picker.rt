@@ -63,7 +63,7 @@ impl RankedPicker {
         k: usize,
         word: u64,
     ) -> Result<AddrList, OutOfMemory>
-        requires few { k ≤ 16 }
+        requires few { k ≤ 32 }
         requires distinct { IsDistinct same_address (map (λ r. r.addr) cands.now) }
         ensures { IfOk result (λ picks. picks ≡ ranked cands.now k word) }
     {

@@ -7,7 +7,7 @@ use net_base::{AddrList, OutOfMemory};
 use std::alloc::{AllocError, Global};
 
 // How many are picked from a short list. More would enter a longer one, and each would move more of it.
-pub const FEW: usize = 16;
+pub const FEW: usize = 32;
 
 // The least of those that came, the least first, and at most so many.
 #[derive(Drop)]
@@ -18,7 +18,7 @@ pub struct ShortList {
 
 impl ShortList {
     pub fn new(alloc: Global, most: usize) -> Result<ShortList, AllocError>
-        requires { most ≤ 16 }
+        requires { most ≤ 32 }
         ensures { IfOk result (λ list. HasLeast most [] list) }
     {
         // one more stands there until the last is dropped

@@ -95,30 +95,46 @@ macro_rules! high {
     };
 }
 
-const CROWD: [Addr; 20] = [
-    high!(7),
-    low!(3),
-    low!(9),
-    high!(1),
+const CROWD: [Addr; 36] = [
+    low!(14),
     low!(5),
     high!(10),
-    low!(7),
-    high!(2),
-    low!(6),
-    high!(9),
-    low!(4),
+    high!(7),
+    high!(18),
+    low!(16),
     high!(5),
-    low!(10),
-    low!(2),
-    high!(8),
-    low!(1),
-    high!(4),
-    high!(3),
+    low!(15),
+    low!(6),
+    high!(14),
+    high!(11),
     low!(8),
+    low!(2),
+    low!(3),
+    high!(12),
+    low!(4),
+    low!(1),
+    low!(18),
+    low!(10),
+    high!(13),
+    high!(9),
+    low!(7),
+    high!(16),
+    high!(8),
     high!(6),
+    high!(2),
+    high!(3),
+    low!(17),
+    low!(11),
+    high!(4),
+    low!(13),
+    high!(15),
+    high!(1),
+    high!(17),
+    low!(12),
+    low!(9),
 ];
 
-const IN_ORDER: [Addr; 20] = [
+const IN_ORDER: [Addr; 36] = [
     low!(1),
     high!(1),
     low!(2),
@@ -139,12 +155,28 @@ const IN_ORDER: [Addr; 20] = [
     high!(9),
     low!(10),
     high!(10),
+    low!(11),
+    high!(11),
+    low!(12),
+    high!(12),
+    low!(13),
+    high!(13),
+    low!(14),
+    high!(14),
+    low!(15),
+    high!(15),
+    low!(16),
+    high!(16),
+    low!(17),
+    high!(17),
+    low!(18),
+    high!(18),
 ];
 
 /// Under this word those of port 6 have the score 0, and those of port 5 the score 2^64 - 1.
 const SIX_FIRST: u64 = 18_446_744_073_709_223_930;
 
-const FROM_SIX: [Addr; 20] = [
+const FROM_SIX: [Addr; 36] = [
     low!(6),
     high!(6),
     low!(7),
@@ -155,6 +187,22 @@ const FROM_SIX: [Addr; 20] = [
     high!(9),
     low!(10),
     high!(10),
+    low!(11),
+    high!(11),
+    low!(12),
+    high!(12),
+    low!(13),
+    high!(13),
+    low!(14),
+    high!(14),
+    low!(15),
+    high!(15),
+    low!(16),
+    high!(16),
+    low!(17),
+    high!(17),
+    low!(18),
+    high!(18),
     low!(1),
     high!(1),
     low!(2),
@@ -178,7 +226,7 @@ fn picks_of_crowd(
     Ok(picked.as_slice() == want)
 }
 
-// A list of at most 16 is kept while the candidates pass, and more are set apart and sorted.
+// A list of at most 32 is kept while the candidates pass, and more are set apart and sorted.
 #[test]
 fn few_and_many_of_a_crowd_are_its_least(rt: HostRuntime) -> Result<(), OutOfMemory> {
     let alloc = rt.alloc();
@@ -186,7 +234,7 @@ fn few_and_many_of_a_crowd_are_its_least(rt: HostRuntime) -> Result<(), OutOfMem
         addr.key().wrapping_add(word)
     })?);
     for (word, order) in [(0, &IN_ORDER), (SIX_FIRST, &FROM_SIX)] {
-        for count in [1, 2, 3, 10, 15, 16, 17, 20] {
+        for count in [1, 2, 3, 10, 31, 32, 33, 36] {
             let want = &order[..count];
             assert!(rt;
                 picks_of_crowd(alloc, &picker, count, word, want)?,
