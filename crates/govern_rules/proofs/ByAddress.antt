@@ -50,7 +50,7 @@ all_from_places : (P : Link → Type 0) (links : List Link) → ((i : ℕ) (d : 
 all_from_places P [] h = tt
 all_from_places P (l ∷ links) h = (h 0 l (omega arith), all_from_places P links (λ i d inside. h (suc i) d (omega arith)))
 
-at_place : (P : Link → Type 0) (links : List Link) → AllByRecursion P links → (i : ℕ) (d : Link) → i < length links → P (get_or links i d)
+pub at_place : (P : Link → Type 0) (links : List Link) → AllByRecursion P links → (i : ℕ) (d : Link) → i < length links → P (get_or links i d)
 at_place P [] h i d inside = absurd (omega (arith, inside))
 at_place P (l ∷ links) h zero d inside = h.0
 at_place P (l ∷ links) h (suc i) d inside = at_place P links h.1 i d (omega arith)
@@ -87,7 +87,7 @@ in_order-front l (k ∷ links) upto h = ((upto, none_below l k links upto h.0), 
 -- ---- the order of their addresses
 
 -- no address is below one before it
-abbrev pub IsByAddress : List Link → Type 0
+abbrev IsByAddress : List Link → Type 0
 IsByAddress [] = Unit {0}
 IsByAddress (l ∷ links) = AllByRecursion (λ k. address_below k.addr l.addr ≡ false) links × IsByAddress links
 
@@ -96,11 +96,11 @@ none_lower : (l : Link) (links : List Link) → AllByRecursion (λ k. link_below
 none_lower l [] h = tt
 none_lower l (k ∷ links) h = (grind (arith, h.0), none_lower l links h.1)
 
-pub by_address : (links : List Link) → IsInOrder links → IsByAddress links
+by_address : (links : List Link) → IsInOrder links → IsByAddress links
 by_address [] h = tt
 by_address (l ∷ links) h = (none_lower l links h.0, by_address links h.1)
 
-pub in_order : (links : List Link) → IsByAddress links → (i j : ℕ) (d : Link) → i ≤ j → j < length links →
+in_order : (links : List Link) → IsByAddress links → (i j : ℕ) (d : Link) → i ≤ j → j < length links →
     address_below (get_or links j d).addr (get_or links i d).addr ≡ false
 in_order [] h i j d upto inside = absurd (omega (arith, inside))
 in_order (l ∷ links) h zero zero d upto inside = address_irreflexive l.addr

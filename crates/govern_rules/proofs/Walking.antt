@@ -1,17 +1,17 @@
 -- Walks past links in order of address.
-use Rattle.std.proofs.Common.{◌≡◌, ℕ, zero, suc, ◌+◌, ◌-◌, ◌<◌, ◌≤◌, Bool, true, false, ◌&&◌, not, List, [], ◌∷◌, length, take, drop, get_or, Option, Some, None, slice_get, refl, sym, ap, subst, ◌∙◌, inl, inr, arith}
-use Rattle.std.specs.List.{prefix_len}
-use Rattle.std.proofs.lemmas.Bool.{cases_Bool, cases_lt, false≢true, and_parts}
-use Rattle.std.proofs.lemmas.List.{drop-take, drop_all, drop_more, get_or-drop, get_or-take, length-drop, length-take}
+use Rattle.std.proofs.Common.{◌≡◌, ℕ, zero, suc, ◌+◌, ◌-◌, ◌<◌, ◌≤◌, Bool, true, false, not, List, [], ◌∷◌, ◌++◌, length, take, drop, get_or, Option, Some, None, slice_get, refl, sym, ap, subst, ◌∙◌, inl, inr, arith}
+use Rattle.std.specs.List.{AllByRecursion, prefix_len}
+use Rattle.std.proofs.lemmas.Bool.{cases_Bool, cases_lt, false≢true}
+use Rattle.std.proofs.lemmas.List.{drop-take, drop_all, drop_more, take_more, get_or-drop, get_or-take, length-drop, length-take}
 use Rattle.std.proofs.lemmas.List.Sums.{prefix_len-drop_all, prefix_len-le-length, prefix_len_is, prefix_len_passes, prefix_len_stops}
 use Rattle.std.proofs.lemmas.Option.{slice_get-get_or}
 use Rattle.net_base.specs.Address.{same_address, address_below}
 use Rattle.net_base.specs.declared.address.Addr.{Addr}
-use Rattle.net_base.proofs.AddressOrder.{address_irreflexive, address_connected, address_transitive, address_turned, never_both, same_address-is}
+use Rattle.net_base.proofs.AddressOrder.{address_irreflexive, address_turned, never_both, same_address-is}
 use Rattle.govern_rules.specs.SortedLinks.{IsInOrder, is_below, links_of}
-use Rattle.govern_rules.specs.Walks.{IsRunFrom, HasCome, passed_by, is_over, is_before_at, is_below_at, is_not_below_at, has_address_at}
+use Rattle.govern_rules.specs.Walks.{IsRunFrom, HasCome, is_beyond, is_passed, is_before_at, is_below_at, has_address_at}
 use Rattle.govern_rules.specs.declared.link.Link.{Link}
-use Rattle.govern_rules.proofs.ByAddress.{by_address, in_order, in_order-drop, none_behind, own_behind, under_lower}
+use Rattle.govern_rules.proofs.ByAddress.{at_place, in_order-drop, none_behind, own_behind, under_lower}
 
 -- ---- what stands together from a place on
 
@@ -53,30 +53,34 @@ module _ {X : Type 0} where
 
 -- ---- past the links with an address below one
 
--- what is below an address is below one that is not below that
-lower : (a last addr : Addr) → address_below addr last ≡ false → address_below a last ≡ true → address_below a addr ≡ true
-lower a last addr over under = elim (cases_Bool (same_address addr last)) [
-  | inl same ↦ subst (λ x. address_below a x ≡ true) (sym (same_address-is addr last same)) under
-  | inr other ↦ address_transitive a last addr under (address_connected addr last other over)
-]
+one_more : (n : ℕ) → 1 + n ≡ suc n
+one_more n = omega arith
 
-still_passed : (addr : Addr) (last : Option Addr) (links : List Link) (i : ℕ) (d : Link) → is_over last addr ≡ false → i < passed_by last links →
-    is_below addr (get_or links i d) ≡ true
-still_passed addr None links i d over before = absurd (omega (arith, before))
-still_passed addr (Some last) links i d over before =
-    lower (get_or links i d).addr last addr over (prefix_len_passes (is_below last) links i d before)
+not_turned : (b : Bool) → not b ≡ true → b ≡ false
+not_turned true h = absurd (false≢true h)
+not_turned false h = refl
 
-few_passed : (last : Option Addr) (links : List Link) → passed_by last links ≤ length links
-few_passed None links = omega arith
-few_passed (Some last) links = prefix_len-le-length (is_below last) links
+at_front : (P : Link → Type 0) (place : ℕ) (links : List Link) → place ≤ length links → AllByRecursion P (take place links) → (k : ℕ) (d : Link) → k < place →
+    P (get_or links k d)
+at_front P place links few all k d before =
+    subst P (get_or-take place links k d before) (at_place P (take place links) all k d (omega (arith, before, length-take place links, few)))
+
+below_beyond : (addr : Addr) (last : Option Addr) (l : Link) → is_beyond addr last ≡ true → is_passed last l ≡ true → is_below addr l ≡ true
+below_beyond addr None l beyond passed = absurd (false≢true passed)
+below_beyond addr (Some last) l beyond passed = under_lower l.addr last addr (not_turned (address_below last l.addr) passed) beyond
+
+-- what was passed is below an address that is above the one that was come to last
+passed_below : (addr : Addr) (links : List Link) (last : Option Addr) (place : ℕ) (run : List Link) → HasCome links last place run →
+    is_beyond addr last ≡ true → (k : ℕ) (d : Link) → k < place → is_below addr (get_or links k d) ≡ true
+passed_below addr links last place run come beyond k d before =
+    below_beyond addr last (get_or links k d) beyond (at_front (λ l. is_passed last l ≡ true) place links come.few come.passed k d before)
 
 passed_from : (addr : Addr) (links : List Link) (last : Option Addr) (place : ℕ) (run : List Link) (d : Link) → HasCome links last place run →
-    is_over last addr ≡ false → is_below_at addr (slice_get run (length run - 1)) ≡ false →
+    is_beyond addr last ≡ true → is_below_at addr (slice_get run (length run - 1)) ≡ false →
     prefix_len (is_below addr) links ≡ place + prefix_len (is_below addr) run
-passed_from addr links last place run d come over ends =
+passed_from addr links last place run d come beyond ends =
     let room = within links run place come.front in
-    let least : place ≤ length links = omega (arith, few_passed last links, come.passed) in
-    prefix_len_is (is_below addr) links (place + more) d (omega (arith, upto, room, least)) passes stops
+    prefix_len_is (is_below addr) links (place + more) d (omega (arith, upto, room, come.few)) passes stops
   where
     more : ℕ
     more = prefix_len (is_below addr) run
@@ -86,7 +90,7 @@ passed_from addr links last place run d come over ends =
 
     passes : (k : ℕ) → k < place + more → is_below addr (get_or links k d) ≡ true
     passes k before = elim (cases_lt k place) [
-      | inl early ↦ still_passed addr last links k d over (omega (arith, early, come.passed))
+      | inl early ↦ passed_below addr links last place run come beyond k d early
       | inr late ↦
           let i : ℕ = k - place in
           let at : k ≡ place + i = omega (arith, late) in
@@ -107,77 +111,80 @@ passed_from addr links last place run d come over ends =
 
 -- a walk goes on to an address
 pub go_on : (addr : Addr) (links : List Link) (last : Option Addr) (place : ℕ) (run : List Link) → HasCome links last place run →
-    is_over last addr ≡ false → is_below_at addr (slice_get run (length run - 1)) ≡ false →
+    is_beyond addr last ≡ true → is_below_at addr (slice_get run (length run - 1)) ≡ false →
     place + prefix_len (is_below addr) run ≡ prefix_len (is_below addr) links
-go_on addr [] last place run come over ends =
-    let least : place ≤ 0 = omega (arith, few_passed last [], come.passed) in
-    omega (arith, least, within [] run place come.front, prefix_len-le-length (is_below addr) run)
-go_on addr (l ∷ links) last place run come over ends = sym (passed_from addr (l ∷ links) last place run l come over ends)
+go_on addr [] last place run come beyond ends =
+    omega (arith, come.few, within [] run place come.front, prefix_len-le-length (is_below addr) run)
+go_on addr (l ∷ links) last place run come beyond ends = sym (passed_from addr (l ∷ links) last place run l come beyond ends)
 
--- it goes on by one, where the next is below and the one after that is not
-pub one_further : (addr : Addr) (links : List Link) (last : Option Addr) (place : ℕ) (run : List Link) → HasCome links last place run →
-    (is_below_at addr (slice_get run 0) && is_not_below_at addr (slice_get run 1)) ≡ true → place + 1 ≡ prefix_len (is_below addr) links
-one_further addr links last place [] come both = absurd (false≢true both)
-one_further addr links last place (f ∷ []) come both = absurd (false≢true (and_parts (is_below addr f) false both).1)
-one_further addr links last place (f ∷ s ∷ rest) come both =
-    let parts = and_parts (is_below addr f) (not (is_below addr s)) both in
-    let room = within links run place come.front in
-    sym (prefix_len_is (is_below addr) links (place + 1) f (omega (arith, room)) (passes room parts.0) (stops room parts.1))
-  where
-    run : List Link
-    run = f ∷ s ∷ rest
-
-    same_place : place + 0 ≡ place
-    same_place = omega arith
-
-    first : get_or links place f ≡ f
-    first = ap (λ n. get_or links n f) (sym same_place) ∙ sym (run-item links run place 0 f come.front (omega arith))
-
-    second : get_or links (place + 1) f ≡ s
-    second = sym (run-item links run place 1 f come.front (omega arith))
-
-    not_turned : (b : Bool) → not b ≡ true → b ≡ false
-    not_turned true h = absurd (false≢true h)
-    not_turned false h = refl
-
-    passes : length run ≤ length links - place → is_below addr f ≡ true → (k : ℕ) → k < place + 1 → is_below addr (get_or links k f) ≡ true
-    passes room under k before =
-        under_lower (get_or links k f).addr (get_or links place f).addr addr
-        (in_order links (by_address links come.ordered) k place f (omega (arith, before)) (omega (arith, room)))
-        (ap (is_below addr) first ∙ under)
-
-    stops : length run ≤ length links - place → not (is_below addr s) ≡ true → place + 1 < length links → is_below addr (get_or links (place + 1) f) ≡ false
-    stops room over inside = ap (is_below addr) second ∙ not_turned (is_below addr s) over
-
--- it has come already, where the next link has the address
+-- it has come to an address already, where the next link has it
 pub come_already : (addr : Addr) (links : List Link) (last : Option Addr) (place : ℕ) (run : List Link) → HasCome links last place run →
-    has_address_at addr (slice_get run 0) ≡ true → place ≡ prefix_len (is_below addr) links
-come_already addr links last place [] come same = absurd (false≢true same)
-come_already addr links last place (f ∷ run) come same = sym (prefix_len_is (is_below addr) links place f (omega (arith, room)) passes stops)
+    is_beyond addr last ≡ true → has_address_at addr (slice_get run 0) ≡ true → place ≡ prefix_len (is_below addr) links
+come_already addr links last place [] come beyond same = absurd (false≢true same)
+come_already addr links last place (f ∷ run) come beyond same =
+    sym (prefix_len_is (is_below addr) links place f come.few (λ k before. passed_below addr links last place (f ∷ run) come beyond k f before) stops)
   where
-    room : length (f ∷ run) ≤ length links - place
-    room = within links (f ∷ run) place come.front
-
     same_place : place + 0 ≡ place
     same_place = omega arith
 
     here : get_or links place f ≡ f
     here = ap (λ n. get_or links n f) (sym same_place) ∙ sym (run-item links (f ∷ run) place 0 f come.front (omega arith))
 
-    is_it : f.addr ≡ addr
-    is_it = same_address-is f.addr addr same
-
-    not_over : (o : Option Addr) → place ≡ passed_by o links → is_over o addr ≡ false
-    not_over None at = refl
-    not_over (Some l) at =
-        sym (ap (λ a. address_below a l) (ap (λ x. x.addr) here ∙ is_it))
-        ∙ (ap (λ n. address_below (get_or links n f).addr l) at ∙ prefix_len_stops (is_below l) links f (omega (arith, room, at)))
-
-    passes : (k : ℕ) → k < place → is_below addr (get_or links k f) ≡ true
-    passes k before = still_passed addr last links k f (not_over last come.passed) (omega (arith, before, come.passed))
-
     stops : place < length links → is_below addr (get_or links place f) ≡ false
-    stops inside = ap (is_below addr) here ∙ (ap (λ a. address_below a addr) is_it ∙ address_irreflexive addr)
+    stops inside = ap (is_below addr) here ∙ (ap (λ a. address_below a addr) (same_address-is f.addr addr same) ∙ address_irreflexive addr)
+
+-- ---- what is passed then
+
+-- those below the address
+pub come_before : (addr : Addr) (links run : List Link) → IsInOrder links → IsRunFrom (prefix_len (is_below addr) links) links run →
+    (prefix_len (is_below addr) links < length links → 0 < length run) → HasCome links (Some addr) (prefix_len (is_below addr) links) run
+come_before addr links run ordered front some = record {
+  ordered = ordered;
+  few = prefix_len-le-length (is_below addr) links;
+  passed = below_passed links;
+  front = front;
+  some = some;
+}
+  where
+    below_passed : (ls : List Link) → AllByRecursion (λ l. is_passed (Some addr) l ≡ true) (take (prefix_len (is_below addr) ls) ls)
+    below_passed [] = tt
+    below_passed (l ∷ ls) = elim (cases_Bool (is_below addr l)) [
+      | inl under ↦ rw (under, one_more (prefix_len (is_below addr) ls)) (ap not (never_both l.addr addr under), below_passed ls)
+      | inr over ↦ rw over tt
+    ]
+
+-- and the first that has it
+pub come_behind : (addr : Addr) (links run next : List Link) → IsInOrder links → IsRunFrom (prefix_len (is_below addr) links) links run →
+    has_address_at addr (slice_get run 0) ≡ true → IsRunFrom (prefix_len (is_below addr) links + 1) links next →
+    (prefix_len (is_below addr) links + 1 < length links → 0 < length next) → HasCome links (Some addr) (prefix_len (is_below addr) links + 1) next
+come_behind addr links [] next ordered front same after some = absurd (false≢true same)
+come_behind addr links (f ∷ run) next ordered front same after some = record {
+  ordered = ordered;
+  few = omega (arith, inside);
+  passed = subst (AllByRecursion (λ l. is_passed (Some addr) l ≡ true)) (sym (take_more links place f inside))
+      (all_and_one (λ l. is_passed (Some addr) l ≡ true) (take place links) (get_or links place f) (come_before addr links (f ∷ run) ordered front (λ h. omega arith)).passed it);
+  front = after;
+  some = some;
+}
+  where
+    place : ℕ
+    place = prefix_len (is_below addr) links
+
+    inside : place < length links
+    inside = omega (arith, within links (f ∷ run) place front, prefix_len-le-length (is_below addr) links)
+
+    same_place : place + 0 ≡ place
+    same_place = omega arith
+
+    here : get_or links place f ≡ f
+    here = ap (λ n. get_or links n f) (sym same_place) ∙ sym (run-item links (f ∷ run) place 0 f front (omega arith))
+
+    it : is_passed (Some addr) (get_or links place f) ≡ true
+    it = ap (λ l. not (address_below addr l.addr)) here ∙ (ap (λ a. not (address_below addr a)) (same_address-is f.addr addr same) ∙ ap not (address_irreflexive addr))
+
+    all_and_one : (P : Link → Type 0) (ls : List Link) (l : Link) → AllByRecursion P ls → P l → AllByRecursion P (ls ++ l ∷ [])
+    all_and_one P [] l all one = (one, tt)
+    all_and_one P (k ∷ ls) l all one = (all.0, all_and_one P ls l all.1 one)
 
 -- ---- where the first that is not below an address has another one, none has it
 
@@ -205,21 +212,19 @@ none_there addr (l ∷ links) run ordered front some other = elim (cases_lt plac
     place : ℕ
     place = prefix_len (is_below addr) all
 
--- where the next link is behind an address that is not below the last one, no link has it
+-- where the next link is behind an address that is above the last one, no link has it
 
 pub passed_by_all : (addr : Addr) (links : List Link) (last : Option Addr) (place : ℕ) (run : List Link) → HasCome links last place run →
-    is_over last addr ≡ false → is_before_at addr (slice_get run 0) ≡ true → links_of addr links ≡ []
-passed_by_all addr [] last place run come over before = refl
-passed_by_all addr (l ∷ links) last place run come over before =
-    let at : prefix_len (is_below addr) all ≡ place = prefix_len_is (is_below addr) all place l (omega (arith, few_passed last all, come.passed)) passes stops in
+    is_beyond addr last ≡ true → is_before_at addr (slice_get run 0) ≡ true → links_of addr links ≡ []
+passed_by_all addr [] last place run come beyond before = refl
+passed_by_all addr (l ∷ links) last place run come beyond before =
+    let at : prefix_len (is_below addr) all ≡ place =
+    prefix_len_is (is_below addr) all place l come.few (λ k early. passed_below addr all last place run come beyond k l early) stops in
     none_there addr all run come.ordered (subst (λ n. IsRunFrom n all run) (sym at) come.front)
     (subst (λ n. n < length all → 0 < length run) (sym at) come.some) (elsewhere (slice_get run 0) before)
   where
     all : List Link
     all = l ∷ links
-
-    passes : (k : ℕ) → k < place → is_below addr (get_or all k l) ≡ true
-    passes k before = still_passed addr last all k l over (omega (arith, before, come.passed))
 
     stops : place < length all → is_below addr (get_or all place l) ≡ false
     stops inside =

@@ -1,5 +1,5 @@
 -- Walks past links in order of address, and past peers beside them.
-use Rattle.std.specs.Prelude.{ℕ, ◌≡◌, ◌<◌, Bool, true, false, not, List, take, drop, length, Option, Some, None}
+use Rattle.std.specs.Prelude.{ℕ, ◌≡◌, ◌<◌, ◌≤◌, Bool, true, false, not, List, take, drop, length, Option, Some, None}
 use Rattle.std.specs.List.{AllByRecursion, prefix_len}
 use Rattle.net_base.specs.Address.{same_address, address_below}
 use Rattle.net_base.specs.declared.address.Addr.{Addr}
@@ -12,20 +12,21 @@ use Rattle.govern_rules.specs.declared.link.Link.{Link}
 abbrev pub IsRunFrom : {X : Type 0} → ℕ → List X → List X → Type 0
 IsRunFrom place items run = run ≡ take (length run) (drop place items)
 
--- how many links have an address below the one that was asked for last
-abbrev pub passed_by : Option Addr → List Link → ℕ
-passed_by None links = 0
-passed_by (Some addr) links = prefix_len (is_below addr) links
+-- an address is above the one that was come to last
+abbrev pub is_beyond : Addr → Option Addr → Bool
+is_beyond addr None = true
+is_beyond addr (Some last) = address_below last addr
 
--- the one that was asked for last is above an address
-abbrev pub is_over : Option Addr → Addr → Bool
-is_over None addr = false
-is_over (Some last) addr = address_below addr last
+-- a link was passed: its address is not above that
+abbrev pub is_passed : Option Addr → Link → Bool
+is_passed None l = false
+is_passed (Some last) l = not (address_below last l.addr)
 
 -- a walk has come to a place among links
 pub record HasCome (links : List Link) (last : Option Addr) (place : ℕ) (run : List Link) : Type 0 where
   pub ordered : IsInOrder links
-  pub passed : place ≡ passed_by last links
+  pub few : place ≤ length links
+  pub passed : AllByRecursion (λ l. is_passed last l ≡ true) (take place links)
   pub front : IsRunFrom place links run
   pub some : place < length links → 0 < length run
 
@@ -48,11 +49,6 @@ is_below_at addr (Some l) = is_below addr l
 abbrev pub has_address_at : Addr → Option Link → Bool
 has_address_at addr None = false
 has_address_at addr (Some l) = same_address l.addr addr
-
--- there is a link, and its address is not below one
-abbrev pub is_not_below_at : Addr → Option Link → Bool
-is_not_below_at addr None = false
-is_not_below_at addr (Some l) = not (is_below addr l)
 
 -- there is a link, and it has another address
 abbrev pub has_other_address_at : Addr → Option Link → Bool

@@ -32,6 +32,14 @@ impl<'a> Found<'a> {
         }
     }
 
+    // With room for so many.
+    pub fn with_room(alloc: Global, room: usize) -> Result<Found<'a>, AllocError>
+        ensures { IfOk result (λ found. found ≡ []) }
+    {
+        let peers = Vec::with_capacity(alloc, room)?;
+        Ok(Found { peers })
+    }
+
     pub fn push(&mut self, peer: &'a Peer) -> Result<(), AllocError>
         ensures { OnOk result (self.new ≡ self.old ++ peer.now ∷ []) }
     {

@@ -1,11 +1,11 @@
-ghost use Rattle.std.specs.Prelude.{◌≡◌, drop};
+ghost use Rattle.std.specs.Prelude.{◌≡◌, ◌<◌, drop, length};
 ghost use Rattle.std.specs.List.{list_any, prefix_len};
 ghost use Rattle.net_base.specs.declared.address.Addr.{Addr};
 ghost use Rattle.govern_rules.specs.Lent.{AreLent};
 ghost use Rattle.govern_rules.specs.Links.{some_link};
 ghost use Rattle.govern_rules.specs.Marks.{has_mark};
 ghost use Rattle.govern_rules.specs.SortedLinks.{AreNotBelow, IsInOrder, is_below, links_of};
-ghost use Rattle.govern_rules.specs.Walks.{IsSpot};
+ghost use Rattle.govern_rules.specs.Walks.{IsRunFrom, IsSpot};
 
 use crate::Link;
 use crate::mark::{Mark, has_mark};
@@ -138,4 +138,18 @@ pub fn some_from(links: &ChunkedList<Link>, start: usize, addr: &Addr, mark: Mar
         place += 1;
     }
     false
+}
+
+// The links from a place on that stand together. Those at hand are not looked for.
+#[inline(always)]
+pub fn at_hand<'a>(links: &'a ChunkedList<Link>, rest: &'a [Link], place: usize) -> &'a [Link]
+    requires { IsRunFrom place links.now rest.now }
+    ensures front { IsRunFrom place links.now result.now }
+    ensures some { place < length links.now → 0 < length result.now }
+{
+    if rest.is_empty() {
+        links.run_from(place)
+    } else {
+        rest
+    }
 }

@@ -9,7 +9,7 @@ ghost use Rattle.govern_rules.specs.SortedLinks.{AreNotBelow, IsInOrder, links_o
 ghost use Rattle.govern_rules.specs.Walks.{IsRunFrom, has_other_address_at};
 ghost use Rattle.govern_rules.specs.declared.link.Link.{Link};
 
-use crate::links::some_from;
+use crate::links::{at_hand, some_from};
 use crate::mark::{Mark, has_mark};
 use crate::nearby::Nearby;
 use crate::{Link, View};
@@ -46,20 +46,6 @@ fn count_marked(mark: Mark, big: bool, links: &ChunkedList<Link>, book: &PeerBoo
         rest = after;
     }
     count
-}
-
-// The links from a place on that stand together. Those at hand are not looked for.
-fn at_hand<'a>(links: &'a ChunkedList<Link>, rest: &'a [Link], place: usize) -> &'a [Link]
-    requires inside { place < length links.now }
-    requires rest { IsRunFrom place links.now rest.now }
-    ensures front { IsRunFrom place links.now result.now }
-    ensures some { 0 < length result.now }
-{
-    if rest.is_empty() {
-        links.run_from(place)
-    } else {
-        rest
-    }
 }
 
 // Whether the link at a place is the last of its address with a mark, and the peer there is of a class. Those behind it that

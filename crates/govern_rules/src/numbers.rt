@@ -54,6 +54,12 @@ fn to_activate(big: bool, view: &View, book: &PeerBook) -> u64
     without_marked(missing, Mark::Owes2, big, view, book)
 }
 
+pub fn cold(big: bool, book: &PeerBook) -> u64
+    ensures { result ≡ known_of big book.now - established_of big book.now }
+{
+    known(big, book).saturating_sub(established(big, book))
+}
+
 fn known(big: bool, book: &PeerBook) -> u64
     ensures { result ≡ known_of big book.now }
 {

@@ -97,6 +97,7 @@ impl Search<'_> {
     }
 
     // What is asked of the peer itself, where peers are promoted.
+    #[inline(always)]
     fn is_ready_to_go(&self, peer: &Peer) -> bool
         ensures { result ≡ (is_ready Task.Promoting self.now.view.now.moment peer.now && is_meant self.now.whom peer.now.addr) }
     {

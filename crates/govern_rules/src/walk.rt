@@ -1,10 +1,10 @@
-ghost use Rattle.std.specs.Prelude.{◌≡◌, ◌<◌, ◌-◌, ◌&&◌, [], true, None, length, slice_get, IfSome};
+ghost use Rattle.std.specs.Prelude.{◌≡◌, ◌<◌, ◌-◌, [], true, None, length, slice_get, IfSome};
 ghost use Rattle.std.specs.List.{prefix_len};
 ghost use Rattle.govern_rules.specs.SortedLinks.{IsInOrder, is_below, links_of};
-ghost use Rattle.govern_rules.specs.Walks.{IsRunFrom, IsSpot, is_over, is_before_at, is_below_at, is_not_below_at, has_address_at};
+ghost use Rattle.govern_rules.specs.Walks.{IsRunFrom, IsSpot, is_beyond, is_before_at, is_below_at, has_address_at};
 
 use crate::Link;
-use crate::links::start_of;
+use crate::links::{at_hand, start_of};
 use crate::spot::Spot;
 use chunked_list::ChunkedList;
 use net_base::Addr;
@@ -15,9 +15,9 @@ use std::marker::Model;
 #[derive(Drop)]
 pub struct Walk<'a> {
     links: &'a ChunkedList<Link>,
-    // what was asked for last
+    // what was come to last
     last: Option<Addr>,
-    // how many links have an address below that
+    // how many links were passed. None of them has an address above that
     place: usize,
     // those from there on that stand together
     run: &'a [Link],
@@ -59,47 +59,54 @@ impl<'a> Walk<'a> {
         if self.has_passed(addr) {
             return None;
         }
-        if starts_at(self.run, addr) {
-            return Some(Spot {
-                place: self.place,
-                run: self.run,
-            });
+        let count = self.links.len();
+        if self.place < count && starts_at(self.run, addr) && is_beyond(addr, &self.last) {
+            let place = self.place;
+            let run = self.run;
+            let (_, rest) = run.split_at(1);
+            let next = at_hand(self.links, rest, place + 1);
+            self.last = Some(*addr);
+            self.place = place + 1;
+            self.run = next;
+            return Some(Spot { place, run });
         }
+        self.go_to(addr)
+    }
+
+    // The same, however far that is.
+    fn go_to(&mut self, addr: &Addr) -> Option<Spot<'a>>
+        ensures same { self.new ≡ self.old }
+        ensures there { IfSome result (λ spot. IsSpot addr.now self.old spot.place spot.run.now) }
+        ensures none { result ≡ None → links_of addr.now self.old ≡ [] }
+    {
         let place = self.place_of(addr);
         let run = self.run_from(place);
-        self.last = Some(*addr);
-        self.place = place;
-        self.run = run;
-        if !starts_at(run, addr) {
+        if place == self.links.len() || !starts_at(run, addr) {
+            self.last = Some(*addr);
+            self.place = place;
+            self.run = run;
             return None;
         }
+        let next = self.run_from(place + 1);
+        self.last = Some(*addr);
+        self.place = place + 1;
+        self.run = next;
         Some(Spot { place, run })
     }
 
-    // Whether an address is below that of the first link at hand, and not below the one that was asked for last: so it has
-    // no link, and the walk stays where it is.
+    // Whether an address is below that of the first link at hand, and above all that was passed: so it has no link, and the
+    // walk stays where it is.
     fn has_passed(&self, addr: &Addr) -> bool
         ensures { result ≡ true → links_of addr.now self.now ≡ [] }
     {
-        is_before_first(addr, self.run) && !is_over(&self.last, addr)
+        is_before_first(addr, self.run) && is_beyond(addr, &self.last)
     }
 
-    // How many links have an address below one. Where a walk goes on, that is mostly one more.
-    #[inline(always)]
+    // How many links have an address below one.
     fn place_of(&self, addr: &Addr) -> usize
         ensures { result ≡ prefix_len (is_below addr.now) self.now }
     {
-        if self.place < self.links.len() && is_before_second(addr, self.run) {
-            return self.place + 1;
-        }
-        self.place_further(addr)
-    }
-
-    // The same, however many more.
-    fn place_further(&self, addr: &Addr) -> usize
-        ensures { result ≡ prefix_len (is_below addr.now) self.now }
-    {
-        if is_over(&self.last, addr) || ends_below(self.run, addr) {
+        if !is_beyond(addr, &self.last) || ends_below(self.run, addr) {
             return start_of(self.links, addr);
         }
         if self.place == self.links.len() {
@@ -123,16 +130,6 @@ impl<'a> Walk<'a> {
     }
 }
 
-// Whether the first of some links has an address below one, and the second hasn't.
-fn is_before_second(addr: &Addr, run: &[Link]) -> bool
-    ensures { result ≡ (is_below_at addr.now (slice_get run.now 0) && is_not_below_at addr.now (slice_get run.now 1)) }
-{
-    match run {
-        [first, second, ..] => first.addr.is_before(addr) && !second.addr.is_before(addr),
-        _ => false,
-    }
-}
-
 // Whether an address is below that of the first of some links, or there is none.
 fn is_before_first(addr: &Addr, run: &[Link]) -> bool
     ensures { result ≡ is_before_at addr.now (slice_get run.now 0) }
@@ -143,13 +140,13 @@ fn is_before_first(addr: &Addr, run: &[Link]) -> bool
     }
 }
 
-// Whether an address is below the one that was asked for last.
-fn is_over(last: &Option<Addr>, addr: &Addr) -> bool
-    ensures { result ≡ is_over last.now addr.now }
+// Whether an address is above the one that was come to last.
+fn is_beyond(addr: &Addr, last: &Option<Addr>) -> bool
+    ensures { result ≡ is_beyond addr.now last.now }
 {
     match last {
-        Some(last) => addr.is_before(last),
-        None => false,
+        Some(last) => last.is_before(addr),
+        None => true,
     }
 }
 

@@ -9,8 +9,8 @@ ghost use Rattle.govern_rules.specs.Tasks.{number_of};
 use crate::candidates::candidates;
 use crate::found::Found;
 use crate::mark::Mark;
-use crate::numbers::{missing_established, number_of};
-use crate::promotable::{Promotable, find_promotable};
+use crate::numbers::number_of;
+use crate::promotable::find_promotable;
 use crate::search::Search;
 use crate::task::Task;
 use peer_book::PeerBook;
@@ -37,7 +37,7 @@ pub fn find_wanted<'a>(
     if let Task::Promoting = search.task
         && search.view.links.marked(Mark::Pending).len() > book.len() / 4
     {
-        return to_promote(alloc, search, book);
+        return find_promotable(alloc, search, book);
     }
     let number = number_of(search.task, search.big, search.view, book);
     if number == 0 {
@@ -48,29 +48,4 @@ pub fn find_wanted<'a>(
     }
     let cands = candidates(alloc, search, book)?;
     Ok(Wanted { number, cands })
-}
-
-// The same where peers are promoted, by one walk through the book.
-fn to_promote<'a>(
-    alloc: Global,
-    search: &Search,
-    book: &'a PeerBook,
-) -> Result<Wanted<'a>, AllocError>
-    requires { search.now.task ≡ Task.Promoting }
-    ensures number { IfOk result (λ wanted. wanted.number ≡ number_of search.now.task search.now.big search.now.view.now book.now) }
-    ensures cands { IfOk result (λ wanted. 0 < wanted.number → IsPermutation (filter (suits search.now) book.now) wanted.cands) }
-    ensures apart { IfOk result (λ wanted. 0 < wanted.number → IsDistinct same_address (addresses_of wanted.cands)) }
-{
-    let missing = missing_established(search.big, search.view, book);
-    if missing == 0 {
-        return Ok(Wanted {
-            number: 0,
-            cands: Found::new(alloc),
-        });
-    }
-    let Promotable { cands, pending } = find_promotable(alloc, search, book)?;
-    Ok(Wanted {
-        number: missing.saturating_sub(pending),
-        cands,
-    })
 }

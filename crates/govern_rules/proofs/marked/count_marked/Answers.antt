@@ -1,4 +1,4 @@
-use Rattle.std.proofs.Common.{◌≡◌, ◌+◌, ◌≤◌, [], Bool, true, false, cond, ℕ, List, drop, get_or, sym, ap, ◌∙◌, subst, arith, rules}
+use Rattle.std.proofs.Common.{◌≡◌, ◌+◌, ◌≤◌, ◌<◌, [], Bool, true, false, cond, ℕ, List, drop, get_or, length, sym, ap, ◌∙◌, subst, arith, rules}
 use Rattle.std.proofs.lemmas.List.{drop_all}
 use Rattle.govern_rules.specs.ClassRules.{count_of}
 use Rattle.govern_rules.specs.Links.{some_link}
@@ -10,10 +10,12 @@ use Rattle.govern_rules.proofs.marked.count_marked.Goals as goal
 
 pub counts-requires-clause-after : goal.counts-requires-clause-after
 counts-requires-clause-after c =
-    run-next c.args.links.now c.at_hand-run.result.now c.split_at.result.1.now c.loop-place.place c.at_hand-run.ensures.front c.at_hand-run.ensures.some c.split_at.ensures.back
+    let inside : c.loop-place.place < length c.args.links.now = omega arith in
+    run-next c.args.links.now c.at_hand-run.result.now c.split_at.result.1.now c.loop-place.place c.at_hand-run.ensures.front (c.at_hand-run.ensures.some inside) c.split_at.ensures.back
 
 pub loop-place-preserved : goal.loop-place-preserved
 loop-place-preserved c =
+    let inside : c.loop-place.place < length c.args.links.now = omega arith in
     let links : List Link = c.args.links.now in
     let run : List Link = c.at_hand-run.result.now in
     let value = λ (d : Link). sym (c.counts.ensures.value d ∙ ap (counts c.args.mark c.args.big (get_or links c.loop-place.place d) (drop (c.loop-place.place + 1) links)) c.loop-place.invariant.nearby) in
@@ -23,7 +25,7 @@ loop-place-preserved c =
     record {
       so_far = omega (arith, more, added, c.loop-place.invariant.so_far);
       few = omega (arith, one, added, c.loop-place.invariant.few);
-      rest = run-next links run c.split_at.result.1.now c.loop-place.place c.at_hand-run.ensures.front c.at_hand-run.ensures.some c.split_at.ensures.back;
+      rest = run-next links run c.split_at.result.1.now c.loop-place.place c.at_hand-run.ensures.front (c.at_hand-run.ensures.some inside) c.split_at.ensures.back;
       nearby = c.counts.ensures.same ∙ c.loop-place.invariant.nearby;
     }
   where
