@@ -49,7 +49,7 @@ impl RankedPicker {
         if k == 0 {
             return Ok(AddrList::new(alloc));
         }
-        if k <= FEW {
+        if k <= FEW && k < cands.len() / 4 {
             return self.pick_few(alloc, cands, k, word);
         }
         let mut scored = self.scores(alloc, cands, word)?;

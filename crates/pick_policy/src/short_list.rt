@@ -6,7 +6,8 @@ use crate::scored::{Scored, addresses};
 use net_base::{AddrList, OutOfMemory};
 use std::alloc::{AllocError, Global};
 
-// How many are picked from a short list. More would enter a longer one, and each would move more of it.
+// How many are picked from a short list at most, where the candidates are four times as many. More would enter a longer one,
+// and each would move more of it.
 pub const FEW: usize = 32;
 
 // The least of those that came, the least first, and at most so many.

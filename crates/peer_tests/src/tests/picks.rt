@@ -226,7 +226,7 @@ fn picks_of_crowd(
     Ok(picked.as_slice() == want)
 }
 
-// A list of at most 32 is kept while the candidates pass, and more are set apart and sorted.
+// Less than a fourth of them are kept in a short list while they pass, and more are set apart and sorted.
 #[test]
 fn few_and_many_of_a_crowd_are_its_least(rt: HostRuntime) -> Result<(), OutOfMemory> {
     let alloc = rt.alloc();
@@ -234,7 +234,7 @@ fn few_and_many_of_a_crowd_are_its_least(rt: HostRuntime) -> Result<(), OutOfMem
         addr.key().wrapping_add(word)
     })?);
     for (word, order) in [(0, &IN_ORDER), (SIX_FIRST, &FROM_SIX)] {
-        for count in [1, 2, 3, 10, 31, 32, 33, 36] {
+        for count in [1, 2, 3, 8, 9, 10, 35, 36] {
             let want = &order[..count];
             assert!(rt;
                 picks_of_crowd(alloc, &picker, count, word, want)?,
