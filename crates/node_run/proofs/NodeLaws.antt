@@ -9,7 +9,7 @@ use Rattle.io_edge.specs.declared.shelf_refusal.ShelfRefusal.TheVariants as refu
 use Rattle.node_settings.specs.declared.config.Config.{Config}
 use Rattle.node_settings.specs.declared.topology.Topology.{Topology}
 use Rattle.trace_meaning.specs.FaultCounts.{HasWriteCount}
-use Rattle.world_drive.specs.Drive.{HasWorldCount, IsDriven}
+use Rattle.world_play.specs.Drive.{HasWorldCount, IsDriven}
 use Rattle.trace_meaning.specs.declared.outcome.Outcome.{Outcome}
 use Rattle.trace_meaning.specs.declared.outcome.Outcome.TheVariants as outcomes
 use Rattle.node_run.specs.Asked.{Asked}

@@ -15,7 +15,7 @@ use Rattle.net_base.specs.declared.targets.Targets.{Targets}
 use Rattle.node_settings.specs.declared.config.Config.{Config}
 use Rattle.node_settings.specs.declared.topology.Topology.{Topology}
 use Rattle.node_world.specs.declared.opening.Opening.{Opening}
-use Rattle.world_drive.specs.Drive.{acts_of, all_actions, SaysUpTo, IsDriven, Drives}
+use Rattle.world_play.specs.Drive.{acts_of, all_actions, SaysUpTo, IsDriven, Drives}
 use Rattle.trace_compare.specs.RunText.{text_up_to}
 use Rattle.trace_meaning.specs.declared.outcome.Outcome.{Outcome}
 use Rattle.trace_meaning.specs.declared.outcome.Outcome.TheVariants as outcomes

@@ -10,7 +10,7 @@ use Rattle.node_settings.specs.declared.topology.Topology.{Topology}
 use Rattle.node_world.specs.declared.opening.Opening.{Opening}
 use Rattle.node_world.specs.Meanings.{Rose}
 use Rattle.trace_compare.specs.RunText.{text_up_to}
-use Rattle.world_drive.specs.Drive.{Drives, HasWorldCount}
+use Rattle.world_play.specs.Drive.{Drives, HasWorldCount}
 use Rattle.trace_meaning.specs.FaultCounts.{HasWriteCount}
 use Rattle.trace_meaning.specs.declared.outcome.Outcome.{Outcome}
 use Rattle.trace_meaning.specs.declared.outcome.Outcome.TheVariants as outcomes

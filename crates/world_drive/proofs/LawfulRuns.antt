@@ -11,14 +11,14 @@ use Rattle.net_base.specs.declared.event.Event.{Event}
 use Rattle.net_base.specs.declared.settings.Settings.{Settings}
 use Rattle.node_world.specs.Town.{next_of}
 use Rattle.world_drive.specs.Drill.{Drilled, town_settings, turned, drilled, tallies, tally_lines, drill_text}
-use Rattle.world_drive.specs.Drive.{IsFrontOf, acts_of, all_actions, IsDriven, Drives}
+use Rattle.world_play.specs.Drive.{IsFrontOf, acts_of, all_actions, IsDriven, Drives}
 use Rattle.trace_compare.specs.RunText.{whole_text}
 use Rattle.world_drive.specs.Lawful.{DrivesLawfully, town_events, tallies_of, counted_text}
 use Rattle.trace_meaning.specs.declared.outcome.Outcome.{Outcome}
 use Rattle.trace_meaning.specs.declared.outcome.Outcome.TheVariants as outcome
 use Rattle.world_drive.specs.declared.tallies.Tallies.{Tallies}
 use Rattle.trace_compare.proofs.RunTexts.{after_all-append, after_all-one}
-use Rattle.world_drive.proofs.Drives.{front_all, acts_of-none, acts_of-append, acts_of-one}
+use Rattle.world_play.proofs.Drives.{front_all, acts_of-none, acts_of-append, acts_of-one}
 
 -- ---- in a world
 

@@ -1,4 +1,2 @@
-pub mod DriveEnds
 pub mod Drills
-pub mod Drives
 pub mod LawfulRuns

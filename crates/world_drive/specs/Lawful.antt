@@ -12,7 +12,7 @@ use Rattle.node_engine.specs.Tally.{tally_of}
 use Rattle.node_world.specs.Meanings.{with_more}
 use Rattle.node_world.specs.Town.{next_of}
 use Rattle.world_drive.specs.Drill.{town_settings, drilled, counts_of, tally_lines, IsDrilled}
-use Rattle.world_drive.specs.Drive.{all_actions, IsFrontOf}
+use Rattle.world_play.specs.Drive.{all_actions, IsFrontOf}
 use Rattle.trace_compare.specs.RunText.{whole_text}
 use Rattle.trace_meaning.specs.declared.outcome.Outcome.{Outcome}
 use Rattle.world_drive.specs.declared.tallies.Tallies.{Tallies}

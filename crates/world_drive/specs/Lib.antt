@@ -1,5 +1,3 @@
 pub mod Drill
 pub mod DrillCourse
-pub mod Drive
-pub mod DriveCourse
 pub mod Lawful

@@ -1,5 +1,5 @@
 use Rattle.std.proofs.lemmas.Result.{err_from_is_err_and}
-use Rattle.world_drive.proofs.DriveEnds.{wanting}
+use Rattle.world_play.proofs.DriveEnds.{wanting}
 use Rattle.world_drive.proofs.driving.drive_anew.Goals as goal
 
 pub returns-in_err-new-clause-drives : goal.returns-in_err-new-clause-drives
@@ -9,14 +9,4 @@ returns-in_err-new-clause-drives g c =
 pub returns-in_err-new-2-clause-drives : goal.returns-in_err-new-2-clause-drives
 returns-in_err-new-2-clause-drives g c =
     rw (err_from_is_err_and c.from_residual-in_err-new-2.result c.from_residual-in_err-new-2.ensures.1).1
-    (wanting c.args.settings.now c.args.first.now c.args.count _ _ _ _)
-
-pub returns-in_err-engine-clause-drives : goal.returns-in_err-engine-clause-drives
-returns-in_err-engine-clause-drives g c =
-    rw (err_from_is_err_and c.from_residual-in_err-engine.result c.from_residual-in_err-engine.ensures.1).1
-    (wanting c.args.settings.now c.args.first.now c.args.count _ _ _ _)
-
-pub returns-in_err-pieces-clause-drives : goal.returns-in_err-pieces-clause-drives
-returns-in_err-pieces-clause-drives g c =
-    rw (err_from_is_err_and c.from_residual-in_err-pieces.result c.from_residual-in_err-pieces.ensures.1).1
     (wanting c.args.settings.now c.args.first.now c.args.count _ _ _ _)

@@ -1,6 +1,6 @@
 use Rattle.std.proofs.Common.{◌≡◌, take, true}
 use Rattle.node_world.specs.Meanings.{with_more}
-use Rattle.world_drive.proofs.driving.act_all.Given as goal
+use Rattle.world_play.proofs.driving.act_all.Given as goal
 
 -- the actions so far are done
 abbrev pub invariant-loop-action : goal.invariant-loop-action

@@ -1,6 +1,6 @@
 use Rattle.std.proofs.lemmas.Result.{err_from_is_err_and}
-use Rattle.world_drive.proofs.DriveEnds.{in_head, in_first, in_world, at_last}
-use Rattle.world_drive.proofs.driving.drive_all.Goals as goal
+use Rattle.world_play.proofs.DriveEnds.{in_head, in_first, in_world, at_last}
+use Rattle.world_play.proofs.driving.drive_all.Goals as goal
 
 pub returns-in_err-put_head-clause-drives : goal.returns-in_err-put_head-clause-drives
 returns-in_err-put_head-clause-drives g c =

@@ -16,10 +16,10 @@ use Rattle.net_base.specs.declared.event.Event.{Event}
 use Rattle.node_world.specs.Meanings.{with_more, with_one_more}
 use Rattle.node_world.proofs.Told.{with_more-nil, with_more-append}
 use Rattle.trace_text.specs.EventTexts.{printed_event}
-use Rattle.world_drive.specs.Drive.{IsFrontOf, acts_of}
+use Rattle.world_play.specs.Drive.{IsFrontOf, acts_of}
 use Rattle.trace_compare.specs.RunText.{event_text, text_of}
 use Rattle.trace_compare.proofs.RunTexts.{after_all-append, after_all-one, text_of-append, text_of-one, text_of-none}
-use Rattle.world_drive.specs.DriveCourse.{Ran, RanFor, Broke, BrokeAt, Came, Stopped, IsBreak, IsUnsaid, DoesFront, IsOfWorld}
+use Rattle.world_play.specs.DriveCourse.{Ran, RanFor, Broke, BrokeAt, Came, Stopped, IsBreak, IsUnsaid, DoesFront, IsOfWorld}
 use Rattle.trace_meaning.specs.Output.{told_event}
 use Rattle.trace_compare.specs.Written.{IsTraceable}
 use Rattle.trace_meaning.specs.declared.outcome.Outcome.{Outcome}

@@ -1,7 +1,7 @@
 use Rattle.std.proofs.Common.{◌≡◌, ◌+◌, ◌∙◌, refl, arith}
 use Rattle.std.proofs.lemmas.Result.{err_from_is_err_and}
-use Rattle.world_drive.proofs.Drives.{Ran-none, first-ran, first-broke}
-use Rattle.world_drive.proofs.driving.take_first.Goals as goal
+use Rattle.world_play.proofs.Drives.{Ran-none, first-ran, first-broke}
+use Rattle.world_play.proofs.driving.take_first.Goals as goal
 
 pub loop-event-init : goal.loop-event-init
 loop-event-init g c = record {

@@ -1,7 +1,7 @@
 use Rattle.std.proofs.Common.{◌≡◌, ◌+◌, ◌∙◌, refl, arith}
 use Rattle.std.proofs.lemmas.Result.{err_from_is_err_and}
-use Rattle.world_drive.proofs.Drives.{RanFor-none, RanFor-more, RanFor-broke}
-use Rattle.world_drive.proofs.driving.take_from.Goals as goal
+use Rattle.world_play.proofs.Drives.{RanFor-none, RanFor-more, RanFor-broke}
+use Rattle.world_play.proofs.driving.take_from.Goals as goal
 
 pub loop-turn-init : goal.loop-turn-init
 loop-turn-init g c = record {

@@ -1,7 +1,7 @@
 use Rattle.std.proofs.Common.{◌∙◌}
 use Rattle.std.proofs.lemmas.Result.{err_from_is_err_and}
-use Rattle.world_drive.proofs.Drives.{said-ran, unsaid-broke, acts-broke}
-use Rattle.world_drive.proofs.driving.take.Goals as goal
+use Rattle.world_play.proofs.Drives.{said-ran, unsaid-broke, acts-broke}
+use Rattle.world_play.proofs.driving.take.Goals as goal
 
 pub returns-in_err-actions-clause-broke : goal.returns-in_err-actions-clause-broke
 returns-in_err-actions-clause-broke g c =

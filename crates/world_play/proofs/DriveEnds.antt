@@ -15,15 +15,15 @@ use Rattle.node_world.specs.Meanings.{with_more}
 use Rattle.node_world.proofs.Told.{with_more-nil}
 use Rattle.trace_text.specs.Addresses.{IsAddress}
 use Rattle.trace_text.specs.HeadTexts.{printed_head}
-use Rattle.world_drive.specs.Drive.{IsFrontOf, acts_of, all_actions, AreAll, BreaksOff, SaysUpTo, IsDriven, Drives, outcome_of_drive}
+use Rattle.world_play.specs.Drive.{IsFrontOf, acts_of, all_actions, AreAll, BreaksOff, SaysUpTo, IsDriven, Drives, outcome_of_drive}
 use Rattle.trace_compare.specs.RunText.{text_of, text_up_to, whole_text}
-use Rattle.world_drive.specs.DriveCourse.{Ran, Broke, BrokeAt, Came, Stopped, IsBreak, IsUnsaid, IsOfWorld}
+use Rattle.world_play.specs.DriveCourse.{Ran, Broke, BrokeAt, Came, Stopped, IsBreak, IsUnsaid, IsOfWorld}
 use Rattle.trace_meaning.specs.Judgement.{most_events}
 use Rattle.trace_compare.specs.Written.{IsWrittenTrace, TakesAgreeing}
 use Rattle.trace_meaning.specs.declared.outcome.Outcome.{Outcome}
 use Rattle.trace_meaning.specs.declared.outcome.Outcome.TheVariants as outcome
 use Rattle.trace_compare.proofs.RunTexts.{text_of-append}
-use Rattle.world_drive.proofs.Drives.{front_all, front_none, front_behind, front_more, acts_of-append, why_behind, of_world, Ran-Ran, Ran-Broke}
+use Rattle.world_play.proofs.Drives.{front_all, front_none, front_behind, front_more, acts_of-append, why_behind, of_world, Ran-Ran, Ran-Broke}
 use Rattle.trace_compare.proofs.Written.{whole_agrees}
 
 front_whole : {T : Type 0} (a b c : List T) → IsFrontOf a b → IsFrontOf b c → IsFrontOf a c

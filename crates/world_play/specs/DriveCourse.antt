@@ -9,7 +9,7 @@ use Rattle.net_base.specs.declared.action.Action.{Action}
 use Rattle.net_base.specs.declared.event.Event.{Event}
 use Rattle.node_world.specs.Meanings.{with_more}
 use Rattle.trace_text.specs.EventTexts.{printed_event}
-use Rattle.world_drive.specs.Drive.{IsFrontOf, acts_of, AreAll}
+use Rattle.world_play.specs.Drive.{IsFrontOf, acts_of, AreAll}
 use Rattle.trace_compare.specs.RunText.{text_of}
 use Rattle.trace_meaning.specs.Output.{told_event}
 use Rattle.trace_compare.specs.Written.{IsTraceable}

@@ -1,6 +1,6 @@
 use Rattle.std.proofs.lemmas.Result.{err_from_is_err_and}
-use Rattle.world_drive.proofs.Drives.{does-front}
-use Rattle.world_drive.proofs.driving.act_all.Goals as goal
+use Rattle.world_play.proofs.Drives.{does-front}
+use Rattle.world_play.proofs.driving.act_all.Goals as goal
 
 pub returns-in_err-act-clause-front : goal.returns-in_err-act-clause-front
 returns-in_err-act-clause-front g c =
