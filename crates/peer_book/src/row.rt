@@ -12,13 +12,23 @@ use std::alloc::{AllocError, Global};
 
 // Addresses in order, in chunks. An address that comes from another row has to come in without memory: where the chunks
 // would want some, all go into a vector, which has room for them.
-#[derive(Drop)]
 pub struct Row {
     pub chunks: ChunkedList<Addr>,
     // what stands behind the chunks: nothing, until memory was refused
     pub rest: Vec<Addr>,
     // where an address came in last, or went: a guess of where the next one does
     pub near: usize,
+}
+
+// By hand, so that it is a call where a row may be let go.
+impl Drop for Row {
+    fn drop(self) {
+        let Row {
+            chunks: _,
+            rest: _,
+            near: _,
+        } = self;
+    }
 }
 
 impl Row {

@@ -12,11 +12,21 @@ use net_base::{Addr, OutOfMemory, Peer, Temp};
 use std::alloc::{AllocError, Global};
 
 // The addresses of each temperature, in order.
-#[derive(Drop)]
 pub struct Rows {
     pub cold: Row,
     pub warm: Row,
     pub hot: Row,
+}
+
+// By hand, so that it is a call where rows may be let go.
+impl Drop for Rows {
+    fn drop(self) {
+        let Rows {
+            cold: _,
+            warm: _,
+            hot: _,
+        } = self;
+    }
 }
 
 impl Rows {
