@@ -104,11 +104,11 @@ impl Reactor {
         match ask {
             Ask::Give(event) => return Ok(Some(event)),
             Ask::Govern => return Ok(Some(Event::Govern(self.generator.next_word()))),
-            Ask::Read(key, most) => return Ok(self.read(key, most)?),
+            Ask::Read { key, most } => return Ok(self.read(key, most)?),
             Ask::Write(key) => self.write(key)?,
             Ask::Check(key) => self.check(key)?,
             Ask::Accept => self.accept()?,
-            Ask::Connect(key, addr) => self.connect(rt, key, addr)?,
+            Ask::Connect { key, addr } => self.connect(rt, key, addr)?,
             Ask::Close(key) => {
                 self.streams.remove(&key);
             }
@@ -137,8 +137,8 @@ impl Reactor {
         }
         match write(stream, bytes) {
             Moved::Bytes(count) => self.flow.went(key, count),
-            Moved::Nothing => self.flow.is_full(key),
-            Moved::Again => self.flow.is_ready(key, true),
+            Moved::Nothing => self.flow.takes_no_more(key),
+            Moved::Again => self.flow.may_be_ready(key, true),
             Moved::Ended => self.flow.ended(key),
         }
     }
@@ -162,7 +162,7 @@ impl Reactor {
                 Ok(())
             }
             Accepted::NoRoom => {
-                self.flow.has_no_room();
+                self.flow.lacks_room();
                 Ok(())
             }
         }
@@ -176,7 +176,7 @@ impl Reactor {
     fn connect(&mut self, rt: &impl Net, key: usize, addr: Addr) -> Result<(), OutOfMemory> {
         match TcpStream::connect(rt, socket_addr(addr)) {
             Ok(stream) => self.watch(key, stream),
-            Err(error) if is_for_want_of_room(&error) => self.flow.has_no_room_to_dial(key, addr),
+            Err(error) if is_for_want_of_room(&error) => self.flow.lacks_room_to_dial(key, addr),
             Err(_) => self.flow.ended(key),
         }
     }
@@ -213,9 +213,9 @@ impl Reactor {
         for event in self.ready.iter() {
             let token = event.token();
             if token == LISTENER {
-                self.flow.is_called();
+                self.flow.peer_waits();
             } else {
-                self.flow.is_ready(token.0, event.is_writable())?;
+                self.flow.may_be_ready(token.0, event.is_writable())?;
             }
         }
         Ok(())
@@ -240,7 +240,7 @@ fn read_on(
     match read(stream, room) {
         Moved::Bytes(count) => return flow.came(key, &room[..count]),
         Moved::Nothing => {}
-        Moved::Again => flow.is_ready(key, false)?,
+        Moved::Again => flow.may_be_ready(key, false)?,
         Moved::Ended => flow.ended(key)?,
     }
     Ok(None)

@@ -114,11 +114,11 @@ impl SocketFlow {
         };
         socket.out.put(bytes)?;
         self.unsent = unsent;
-        self.has_to_write(key)
+        self.queue_write(key)
     }
 
     // Has what waits on a socket written, and looked after that it goes.
-    pub(crate) fn has_to_write(&mut self, key: usize) -> Result<(), OutOfMemory>
+    pub(crate) fn queue_write(&mut self, key: usize) -> Result<(), OutOfMemory>
         ensures talk { KeepsTalk self.old.table self.new.table }
         ensures events { self.new.events ≡ self.old.events }
         ensures keeps { KeepsAll self.old self.new }

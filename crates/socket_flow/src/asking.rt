@@ -67,7 +67,7 @@ impl SocketFlow {
         if let Some(ask) = self.next_turn() {
             return ask;
         }
-        if self.moments.is_due() {
+        if self.moments.take_tick() {
             return Ask::Govern;
         }
         Ask::Wait(self.time_to_wait())
@@ -92,7 +92,7 @@ impl SocketFlow {
             return Some(Ask::Close(key));
         }
         if let Some((key, addr)) = next_dial(&mut self.connecting, &self.table) {
-            return Some(Ask::Connect(key, addr));
+            return Some(Ask::Connect { key, addr });
         }
         let key = self.writes.pop()?;
         Some(Ask::Write(key))
@@ -190,7 +190,10 @@ impl SocketFlow {
             socket.is_held = true;
             return None;
         }
-        Some(Ask::Read(key, self.share()))
+        Some(Ask::Read {
+            key,
+            most: self.share(),
+        })
     }
 
     // How many bytes are read of one of those that are ready.
@@ -246,7 +249,10 @@ fn fresh_turn(table: &SocketTable, key: usize) -> Option<Ask>
     let socket = table.get(key)?;
     match socket.stage {
         Stage::Dialing(_) => Some(Ask::Check(key)),
-        Stage::Announcing(_) => Some(Ask::Read(key, socket.unheard())),
+        Stage::Announcing(_) => Some(Ask::Read {
+            key,
+            most: socket.unheard(),
+        }),
         _ => None,
     }
 }

@@ -34,14 +34,14 @@ impl Door {
         self.left = ACCEPTED_MOST;
     }
 
-    pub(crate) fn is_called(&mut self)
+    pub(crate) fn call(&mut self)
         ensures { self.new ≡ record self.old { is_called = true } }
     {
         self.is_called = true;
     }
 
     /// Nobody waits any more.
-    pub(crate) fn is_left(&mut self)
+    pub(crate) fn clear(&mut self)
         ensures { self.new ≡ record self.old { is_called = false } }
     {
         self.is_called = false;
@@ -68,7 +68,7 @@ impl Door {
     }
 
     /// The system has no room for one more socket than these.
-    pub(crate) fn is_crowded(&mut self, moment: u64, count: usize)
+    pub(crate) fn crowd(&mut self, moment: u64, count: usize)
         ensures { self.new ≡ record self.old { room = count - 8; crowded_until = min (moment + 60000) (2 ^ 64 - 1) } }
     {
         self.room = count.saturating_sub(KEPT_FOR_DIALS);

@@ -30,15 +30,15 @@ enum Late {
 
 impl SocketFlow {
     /// Somebody may wait to be accepted.
-    pub fn is_called(&mut self)
+    pub fn peer_waits(&mut self)
         ensures made { Makes PeerWaits self.old self.new }
         ensures turns { Queues PeerWaits self.old self.new }
     {
-        self.door.is_called();
+        self.door.call();
     }
 
     /// A socket may be ready for something, for bytes to be written if that is told.
-    pub fn is_ready(&mut self, key: usize, writable: bool) -> Result<(), OutOfMemory>
+    pub fn may_be_ready(&mut self, key: usize, writable: bool) -> Result<(), OutOfMemory>
         ensures talk { KeepsTalk self.old.table self.new.table }
         ensures events { self.new.events ≡ self.old.events }
         ensures made { Makes (MayBeReady key writable) self.old self.new }
@@ -56,7 +56,7 @@ impl SocketFlow {
             return self.turns.push(key);
         }
         socket.is_blocked = false;
-        self.has_to_write(key)?;
+        self.queue_write(key)?;
         self.turns.push(key)
     }
 
@@ -79,7 +79,7 @@ impl SocketFlow {
         ensures turns { self.new.turns ≡ self.old.turns }
     {
         self.moments.reach(moment);
-        if self.moments.is_told() {
+        if self.moments.take_news() {
             self.events.push(Event::Now(self.moments.moment()))?;
         }
         Ok(())
@@ -143,8 +143,8 @@ impl SocketFlow {
         ensures loses { OnOk result (MayLose self.old self.new) }
         ensures turns { self.new.turns ≡ self.old.turns }
     {
-        if self.is_taken_from(key) {
-            self.has_to_write(key)?;
+        if self.unwatch(key) {
+            self.queue_write(key)?;
             return Ok(());
         }
         self.lose(key)?;
@@ -152,7 +152,7 @@ impl SocketFlow {
     }
 
     // Whether nothing waits on a socket, or its peer took something. It is looked at no more.
-    fn is_taken_from(&mut self, key: usize) -> bool
+    fn unwatch(&mut self, key: usize) -> bool
         ensures keeps { KeepsAll self.old self.new }
         ensures turns { self.new.turns ≡ self.old.turns }
     {
@@ -193,7 +193,7 @@ impl SocketFlow {
         ensures made { Makes NobodyWaits self.old self.new }
         ensures turns { Queues NobodyWaits self.old self.new }
     {
-        self.door.is_left();
+        self.door.clear();
     }
 
     /// Whoever waited to be accepted is gone again.
@@ -205,20 +205,19 @@ impl SocketFlow {
     }
 
     /// The system has no room for the socket of the peer that waits to be accepted.
-    pub fn has_no_room(&mut self)
+    pub fn lacks_room(&mut self)
         ensures made { Makes HasNoRoom self.old self.new }
         ensures turns { Queues HasNoRoom self.old self.new }
     {
-        self.door
-            .is_crowded(self.moments.moment(), self.table.len());
+        self.door.crowd(self.moments.moment(), self.table.len());
     }
 
     /// The system has no room for a socket that is to connect to this address.
-    pub fn has_no_room_to_dial(&mut self, key: usize, addr: Addr) -> Result<(), OutOfMemory>
+    pub fn lacks_room_to_dial(&mut self, key: usize, addr: Addr) -> Result<(), OutOfMemory>
         ensures made { OnOk result (Makes (HasNoRoomToDial key addr) self.old self.new) }
         ensures turns { OnOk result (Queues (HasNoRoomToDial key addr) self.old self.new) }
     {
-        self.has_no_room();
+        self.lacks_room();
         if self.lose_oldest_stranger()? {
             self.connecting.push_back((key, addr))?;
             return Ok(());
@@ -261,7 +260,7 @@ impl SocketFlow {
         };
         socket.stage = Stage::Open(id);
         self.events.push(Event::Dialed(id.cid, true))?;
-        self.has_to_write(key)?;
+        self.queue_write(key)?;
         self.turns.push(key)
     }
 
@@ -359,7 +358,7 @@ impl SocketFlow {
     }
 
     /// The socket takes no more bytes for now.
-    pub fn is_full(&mut self, key: usize) -> Result<(), OutOfMemory>
+    pub fn takes_no_more(&mut self, key: usize) -> Result<(), OutOfMemory>
         ensures after { OnOk result (Puts self.old.table self.new.table key (after_full (socket_at self.old.table key))) }
         ensures events { OnOk result (self.new.events ≡ self.old.events) }
         ensures rest { OnOk result (KeepsRest self.old self.new) }

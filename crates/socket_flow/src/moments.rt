@@ -53,7 +53,7 @@ impl Moments {
     }
 
     /// Whether the moment is later than the last that was told. It is told then.
-    pub(crate) fn is_told(&mut self) -> bool
+    pub(crate) fn take_news(&mut self) -> bool
         ensures answer { result ≡ is_news self.old }
         ensures after { self.new ≡ (if is_news self.old then after_telling self.old else self.old) }
     {
@@ -65,7 +65,7 @@ impl Moments {
     }
 
     /// Whether a tick has come. It is passed then.
-    pub(crate) fn is_due(&mut self) -> bool
+    pub(crate) fn take_tick(&mut self) -> bool
         ensures answer { result ≡ due self.old }
         ensures after { self.new ≡ (if due self.old then after_tick self.old else self.old) }
     {

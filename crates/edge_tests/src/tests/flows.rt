@@ -329,11 +329,13 @@ fn wait(world: &mut FlowWorld) -> Result<(), OutOfMemory> {
 fn answer(world: &mut FlowWorld, ask: &Ask) -> Result<(), OutOfMemory> {
     match ask {
         Ask::Accept => accept(world),
-        Ask::Read(key, most) => read(world, *key, *most),
+        Ask::Read { key, most } => read(world, *key, *most),
         Ask::Write(key) => write(world, *key),
         Ask::Give(event) => tell(world, event),
         Ask::Wait(_) => wait(world),
-        Ask::Connect(key, _) | Ask::Check(key) => happens(&mut world.flow, Happening::Ends(*key)),
+        Ask::Connect { key, .. } | Ask::Check(key) => {
+            happens(&mut world.flow, Happening::Ends(*key))
+        }
         Ask::Close(_) | Ask::Govern => Ok(()),
     }
 }

@@ -12,6 +12,9 @@ enum Step {
     RoundBegins(u64),
     PeerWaits,
     NobodyWaits,
+    CallersAreGone(u64),
+    LacksRoom,
+    LacksRoomToDial(usize, u16),
     PeerCame(u16),
     MayBeRead(usize),
     MayBeWritten(usize),
@@ -74,11 +77,13 @@ fn is_event(event: &Event, sought: &Sought) -> bool {
 fn is_sought(flow: &SocketFlow, ask: &Ask, sought: &Sought) -> bool {
     match (ask, sought) {
         (Ask::Close(key), Sought::Close(at)) => key == at,
-        (Ask::Connect(key, addr), Sought::Connect(at, port)) => key == at && *addr == local(*port),
+        (Ask::Connect { key, addr }, Sought::Connect(at, port)) => {
+            key == at && *addr == local(*port)
+        }
         (Ask::Check(key), Sought::Check(at)) => key == at,
         (Ask::Write(key), Sought::Write(at, bytes)) => key == at && flow.outgoing(*key) == *bytes,
         (Ask::Accept, Sought::Accept) => true,
-        (Ask::Read(key, _), Sought::Read(at)) => key == at,
+        (Ask::Read { key, .. }, Sought::Read(at)) => key == at,
         (Ask::Wait(_), Sought::Wait) => true,
         (Ask::Give(event), sought) => is_event(event, sought),
         _ => false,
@@ -91,6 +96,9 @@ fn happening(step: &Step) -> Option<Happening> {
         Step::RoundBegins(moment) => Happening::RoundBegins(*moment),
         Step::PeerWaits => Happening::PeerWaits,
         Step::NobodyWaits => Happening::NobodyWaits,
+        Step::CallersAreGone(count) => Happening::CallersAreGone(*count),
+        Step::LacksRoom => Happening::LacksRoom,
+        Step::LacksRoomToDial(key, port) => Happening::LacksRoomToDial(*key, local(*port)),
         Step::MayBeRead(key) => Happening::MayBeReady(*key, false),
         Step::MayBeWritten(key) => Happening::MayBeReady(*key, true),
         Step::Takes(key, count) => Happening::Takes(*key, *count),
@@ -405,6 +413,122 @@ const TURNS: &[Step] = &[
     Step::Asks(Sought::Wait),
 ];
 
+// At most 64 peers are accepted in a round, and those that are gone again count.
+const GONE_AGAIN: &[Step] = &[
+    Step::PeerWaits,
+    Step::RoundBegins(1),
+    Step::Asks(Sought::Now(1)),
+    Step::Asks(Sought::Accept),
+    Step::CallersAreGone(63),
+    Step::Asks(Sought::Accept),
+    Step::CallersAreGone(1),
+    Step::Asks(Sought::Wait),
+    Step::RoundBegins(2),
+    Step::Asks(Sought::Now(2)),
+    Step::Asks(Sought::Accept),
+];
+
+// The system has no room for a tenth socket: for a minute there is room for one, since eight are left for dials, and accepting
+// rests for 100 milliseconds at a time.
+const NO_ROOM: &[Step] = &[
+    Step::PeerWaits,
+    Step::RoundBegins(1),
+    Step::Asks(Sought::Now(1)),
+    Step::Asks(Sought::Accept),
+    Step::PeerCame(1),
+    Step::PeerCame(2),
+    Step::PeerCame(3),
+    Step::PeerCame(4),
+    Step::PeerCame(5),
+    Step::PeerCame(6),
+    Step::PeerCame(7),
+    Step::PeerCame(8),
+    Step::PeerCame(9),
+    Step::LacksRoom,
+    Step::Asks(Sought::Accepted(1)),
+    Step::TurnsAway,
+    Step::Asks(Sought::Close(0)),
+    Step::Asks(Sought::Accepted(2)),
+    Step::TurnsAway,
+    Step::Asks(Sought::Close(1)),
+    Step::Asks(Sought::Accepted(3)),
+    Step::TurnsAway,
+    Step::Asks(Sought::Close(2)),
+    Step::Asks(Sought::Accepted(4)),
+    Step::TurnsAway,
+    Step::Asks(Sought::Close(3)),
+    Step::Asks(Sought::Accepted(5)),
+    Step::TurnsAway,
+    Step::Asks(Sought::Close(4)),
+    Step::Asks(Sought::Accepted(6)),
+    Step::TurnsAway,
+    Step::Asks(Sought::Close(5)),
+    Step::Asks(Sought::Accepted(7)),
+    Step::TurnsAway,
+    Step::Asks(Sought::Close(6)),
+    Step::Asks(Sought::Accepted(8)),
+    Step::TurnsAway,
+    Step::Asks(Sought::Close(7)),
+    Step::Asks(Sought::Accepted(9)),
+    Step::Admits(1),
+    Step::Asks(Sought::Wait),
+    Step::RoundBegins(100),
+    Step::Asks(Sought::Now(100)),
+    Step::Asks(Sought::Read(8)),
+    Step::Asks(Sought::Wait),
+    Step::RoundBegins(101),
+    Step::Asks(Sought::Now(101)),
+    Step::Asks(Sought::Wait),
+    Step::Closes(1),
+    Step::Asks(Sought::Close(8)),
+    Step::Asks(Sought::Wait),
+    Step::RoundBegins(200),
+    Step::Asks(Sought::Now(200)),
+    Step::Asks(Sought::Wait),
+    Step::RoundBegins(201),
+    Step::Asks(Sought::Now(201)),
+    Step::Asks(Sought::Accept),
+];
+
+// The oldest of those that announce themselves goes, where there is one. The minute is over at the moment 60,001.
+const NO_ROOM_BESIDE_A_STRANGER: &[Step] = &[
+    Step::PeerWaits,
+    Step::RoundBegins(1),
+    Step::Asks(Sought::Now(1)),
+    Step::Asks(Sought::Accept),
+    Step::PeerCame(1),
+    Step::Asks(Sought::Read(0)),
+    Step::Asks(Sought::Accept),
+    Step::LacksRoom,
+    Step::Asks(Sought::Close(0)),
+    Step::Asks(Sought::Wait),
+    Step::RoundBegins(9_999),
+    Step::Asks(Sought::Now(9_999)),
+    Step::Asks(Sought::Wait),
+    Step::RoundBegins(60_001),
+    Step::Asks(Sought::Now(60_001)),
+    Step::Asks(Sought::Accept),
+];
+
+// A dial takes the room of one that announces itself, and fails where there is none.
+const NO_ROOM_TO_DIAL: &[Step] = &[
+    Step::PeerWaits,
+    Step::RoundBegins(1),
+    Step::Asks(Sought::Now(1)),
+    Step::Asks(Sought::Accept),
+    Step::PeerCame(1),
+    Step::NobodyWaits,
+    Step::Dials(5, 7),
+    Step::Asks(Sought::Connect(1, 7)),
+    Step::LacksRoomToDial(1, 7),
+    Step::Asks(Sought::Close(0)),
+    Step::Asks(Sought::Connect(1, 7)),
+    Step::LacksRoomToDial(1, 7),
+    Step::Asks(Sought::Close(1)),
+    Step::Asks(Sought::Dialed(5, false)),
+    Step::Asks(Sought::Wait),
+];
+
 #[test]
 fn sockets_of_a_script_are_asked_for_as_it_says(rt: HostRuntime) -> Result<(), Fail> {
     for (announce, steps) in [
@@ -415,6 +539,10 @@ fn sockets_of_a_script_are_asked_for_as_it_says(rt: HostRuntime) -> Result<(), F
         (false, TAKES_A_BYTE),
         (false, UNANSWERED),
         (false, TURNS),
+        (false, GONE_AGAIN),
+        (false, NO_ROOM),
+        (true, NO_ROOM_BESIDE_A_STRANGER),
+        (true, NO_ROOM_TO_DIAL),
     ] {
         play(&rt, rt.alloc(), announce, steps)?;
     }

@@ -10,6 +10,10 @@ pub(super) enum Happening {
     RoundBegins(u64),
     PeerWaits,
     NobodyWaits,
+    // So many peers that waited are gone again.
+    CallersAreGone(u64),
+    LacksRoom,
+    LacksRoomToDial(usize, Addr),
     // Something may be done on a socket, bytes be written where that is told.
     MayBeReady(usize, bool),
     Takes(usize, usize),
@@ -33,16 +37,27 @@ pub(super) fn happens(flow: &mut SocketFlow, happening: Happening) -> Result<(),
     match happening {
         Happening::RoundBegins(moment) => flow.begin_round(moment),
         Happening::PeerWaits => {
-            flow.is_called();
+            flow.peer_waits();
             Ok(())
         }
         Happening::NobodyWaits => {
             flow.nobody_waits();
             Ok(())
         }
-        Happening::MayBeReady(key, writable) => flow.is_ready(key, writable),
+        Happening::CallersAreGone(count) => {
+            for _ in 0..count {
+                flow.caller_is_gone();
+            }
+            Ok(())
+        }
+        Happening::LacksRoom => {
+            flow.lacks_room();
+            Ok(())
+        }
+        Happening::LacksRoomToDial(key, addr) => flow.lacks_room_to_dial(key, addr),
+        Happening::MayBeReady(key, writable) => flow.may_be_ready(key, writable),
         Happening::Takes(key, count) => flow.went(key, count),
-        Happening::TakesNoMore(key) => flow.is_full(key),
+        Happening::TakesNoMore(key) => flow.takes_no_more(key),
         Happening::Ends(key) => flow.ended(key),
         Happening::DialComesTo(key, dialed) => flow.dialed(key, dialed),
     }

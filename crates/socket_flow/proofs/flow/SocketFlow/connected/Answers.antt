@@ -12,4 +12,4 @@ invariant_of-self-2 c =
     record { said = flow.said; counted = h.counted; bounded = h.bounded; announces = h.announces; alone = h.alone; in_line = h.in_line }
 
 pub returns-clause-turns : goal.returns-clause-turns
-returns-clause-turns c = queued_where _ _ _ _ _ c.has_to_write.ensures.turns c.push-2.ensures.ok
+returns-clause-turns c = queued_where _ _ _ _ _ c.queue_write.ensures.turns c.push-2.ensures.ok

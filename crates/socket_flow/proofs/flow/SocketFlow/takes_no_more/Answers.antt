@@ -1,6 +1,6 @@
 use Rattle.std.proofs.Common.{arith, rules, true, inr, refl}
 use Rattle.socket_flow.proofs.Bounded.{turns_to}
-use Rattle.socket_flow.proofs.flow.SocketFlow.is_full.Goals as goal
+use Rattle.socket_flow.proofs.flow.SocketFlow.takes_no_more.Goals as goal
 
 pub invariant_of-self-in-Closing : goal.invariant_of-self-in-Closing
 invariant_of-self-in-Closing c =

@@ -1,6 +1,6 @@
 use Rattle.std.proofs.Common.{ℕ, arith, rules, Some, length, ap, inr, refl}
 use Rattle.socket_flow.proofs.Bounded.{turns_to, stranger_of}
-use Rattle.socket_flow.proofs.flow.SocketFlow.has_to_write.Goals as goal
+use Rattle.socket_flow.proofs.flow.SocketFlow.queue_write.Goals as goal
 
 pub invariant_of-self-then-unsent-eq0 : goal.invariant_of-self-then-unsent-eq0
 invariant_of-self-then-unsent-eq0 c =

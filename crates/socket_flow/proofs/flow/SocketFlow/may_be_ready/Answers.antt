@@ -1,7 +1,7 @@
 use Rattle.std.proofs.Common.{arith, rules, false, inr, refl}
 use Rattle.socket_flow.proofs.Bounded.{turns_to}
 use Rattle.socket_flow.proofs.Queueing.{queued_where}
-use Rattle.socket_flow.proofs.flow.SocketFlow.is_ready.Goals as goal
+use Rattle.socket_flow.proofs.flow.SocketFlow.may_be_ready.Goals as goal
 
 pub invariant_of-self-in-Dialing : goal.invariant_of-self-in-Dialing
 invariant_of-self-in-Dialing c =
@@ -35,4 +35,4 @@ pub returns-then-not-writable-clause-turns : goal.returns-then-not-writable-clau
 returns-then-not-writable-clause-turns c = queued_where _ _ _ _ _ refl c.push-then-not-writable.ensures.ok
 
 pub returns-clause-turns : goal.returns-clause-turns
-returns-clause-turns c = queued_where _ _ _ _ _ c.has_to_write.ensures.turns c.push-2.ensures.ok
+returns-clause-turns c = queued_where _ _ _ _ _ c.queue_write.ensures.turns c.push-2.ensures.ok

@@ -1,6 +1,6 @@
 use Rattle.std.proofs.Common.{arith, rules, false, inr, refl}
 use Rattle.socket_flow.proofs.Bounded.{turns_to}
-use Rattle.socket_flow.proofs.flow.SocketFlow.is_taken_from.Goals as goal
+use Rattle.socket_flow.proofs.flow.SocketFlow.unwatch.Goals as goal
 
 pub invariant_of-self-then-unsent-eq0 : goal.invariant_of-self-then-unsent-eq0
 invariant_of-self-then-unsent-eq0 c =
